@@ -1,0 +1,16 @@
+-- The number and the two values of each refusal. Assumes nothing.
+use Prim.Native.Nat.{ℕ}
+use Rattle.plan.specs.declared.refusal.Refusal.{Refusal}
+use Rattle.plan.specs.declared.refusal.Refusal.the-variants.{TooLong, NotAnItem, NoSuchCode, CutShort}
+
+abbrev pub number : Refusal → ℕ
+number TooLong = 10
+number NotAnItem = 9
+number (NoSuchCode c) = 3
+number CutShort = 10
+
+abbrev pub values : Refusal → ℕ × ℕ
+values TooLong = (0, 0)
+values NotAnItem = (0, 0)
+values (NoSuchCode c) = (c, 0)
+values CutShort = (0, 0)

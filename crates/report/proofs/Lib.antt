@@ -1,0 +1,4 @@
+pub mod CommaSeparated
+pub mod Hexadecimal
+pub mod Classes
+pub mod Escapes
