@@ -8,6 +8,7 @@ use Rattle.theory.specs.Meaning.{Meaning, flat}
 abbrev pub family : ℕ → ℕ
 family c = c / 16
 
+-- the five families
 abbrev pub known : ℕ → Bool
 known c = leb 1 (family c) && leb (family c) 5
 
@@ -23,5 +24,6 @@ places c = cond (eqb (family c) 3 || eqb (family c) 4) 1 (cond (eqb (family c) 5
 abbrev pub classes : ℕ → ℕ
 classes c = cond (eqb (family c) 1 || eqb (family c) 2) 1 (cond (eqb (family c) 3 || eqb (family c) 4) 2 0)
 
+-- what the alphabet of loads means
 abbrev pub loads : Meaning
 loads = record { known = known; plain = plain; places = places; classes = classes; layering = flat }

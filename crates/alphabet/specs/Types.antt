@@ -8,6 +8,7 @@ use Rattle.theory.specs.Meaning.{Meaning, layered-by}
 abbrev pub function : ℕ → Bool
 function c = leb 16 c && leb c 24
 
+-- 0 to 6, and the functions
 abbrev pub known : ℕ → Bool
 known c = leb c 6 || function c
 
@@ -19,5 +20,6 @@ places c = cond (eqb c 4) 2 (cond (eqb c 5 || eqb c 6) 1 (cond (function c) ((c 
 abbrev pub classes : ℕ → ℕ
 classes c = cond (eqb c 0 || eqb c 2) 1 0
 
+-- what the alphabet of types means: each code is plain, and Pair and List are layered
 abbrev pub types : Meaning
 types = record { known = known; plain = λ c. c; places = places; classes = classes; layering = layered-by 4 5 }

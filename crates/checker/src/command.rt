@@ -5,7 +5,7 @@ use report::names::Names;
 pub enum Command<'a> {
     /// Lists the items of a plan.
     Plan { names: Names, file: &'a str },
-    /// Gives a verdict on each plan, a line for each.
+    /// Does the same for each file.
     Judge { names: Names, files: &'a [String] },
     /// Prints how the program is called.
     Help,
@@ -15,12 +15,12 @@ pub enum Command<'a> {
 pub fn usage() -> &'static str {
     "usage:
   checker plan [--alphabet loads|types] FILE        lists the items of a line plan
-  checker judge [--alphabet loads|types] FILE...    gives a verdict on each plan, a line for each
+  checker judge [--alphabet loads|types] FILE...    does the same for each file, and ends with status 0
   checker help                                      prints this text
 
 FILE is a text of 32-bit words, in decimal or in hexadecimal after 0x, with white space between; # begins a comment
 that runs to the end of the line. - is the standard input. The alphabet is that of loads where none is named.
-Status: 0 where all is in order, 1 where something was sent back. judge ends with 0 once it has judged every file."
+Status: 0 where all is in order, 1 where something was sent back."
 }
 
 fn names_of(word: &str) -> Option<Names> {

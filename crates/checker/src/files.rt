@@ -8,12 +8,6 @@ use std::io::Read;
 use words::TextError;
 use words::words_of;
 
-/// The words of a file, or a sentence that says why there are none.
-pub enum Words {
-    Read(Vec<u32>),
-    NotRead(String),
-}
-
 // The bytes of the file, or of the standard input where it is named `-`.
 fn bytes_of(rt: &LibcRuntime, file: &str) -> io::Result<Vec<u8>> {
     if file != "-" {
@@ -24,21 +18,20 @@ fn bytes_of(rt: &LibcRuntime, file: &str) -> io::Result<Vec<u8>> {
     Ok(bytes)
 }
 
-fn words_in(heap: Global, file: &str, bytes: &[u8]) -> Result<Words, AnyError> {
+fn words_in(heap: Global, bytes: &[u8]) -> Result<Result<Vec<u32>, String>, AnyError> {
     match words_of(heap, bytes) {
-        Ok(words) => Ok(Words::Read(words)),
-        Err(TextError::Unreadable(fault)) => {
-            let sentence = unreadable_sentence(heap, fault.line, fault.token)?;
-            Ok(Words::NotRead(format!(heap, "{file}: {sentence}")?))
-        }
+        Ok(words) => Ok(Ok(words)),
+        Err(TextError::Unreadable(fault)) => Ok(Err(
+            unreadable_sentence(heap, fault.line, fault.token)?,
+        )),
         Err(TextError::Memory) => Err("out of memory".into()),
     }
 }
 
-/// The words of the file.
-pub fn read_words(rt: &LibcRuntime, file: &str) -> Result<Words, AnyError> {
+/// The words of the file, or a sentence that says why there are none.
+pub fn read_words(rt: &LibcRuntime, file: &str) -> Result<Result<Vec<u32>, String>, AnyError> {
     match bytes_of(rt, file) {
-        Ok(bytes) => words_in(rt.alloc(), file, &bytes),
-        Err(error) => Ok(Words::NotRead(format!(rt.alloc(), "cannot read {file}: {error}")?)),
+        Ok(bytes) => words_in(rt.alloc(), &bytes),
+        Err(error) => Ok(Err(format!(rt.alloc(), "cannot be read: {error}")?)),
     }
 }

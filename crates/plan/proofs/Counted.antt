@@ -1,7 +1,7 @@
 -- Counting the items of a plan while they are read. Assumes nothing.
 use mathlib.Core.Path.{_≡_, refl, sym, _∙_, ap, subst}
 use mathlib.Core.List.{List, [], _∷_, _++_}
-use Prim.Native.Nat.{ℕ, _+_, _-_, _^_, _≤_, _<_}
+use Prim.Native.Nat.{ℕ, _+_, _-_, _^_, _≤_, _<_, min}
 use native.Mathlib.Omega.{arith}
 use lib.ListN.{length, take, drop, length-append, length-drop}
 use Rattle.std.specs.declared.option.Option.{Option}
@@ -51,6 +51,10 @@ few-cells (i ∷ is) = let h = few-cells is in let o = one-cell i in omega arith
 none-left : (m : Meaning) (left : List ℕ) → Begins m left ended → left ≡ []
 none-left m left at-end = refl
 
+-- a sum that fits is not cut
+pub not-cut : (n sum : ℕ) → n ≡ min sum (2 ^ 64 - 1) → sum < 2 ^ 64 → n ≡ sum
+not-cut n sum e h = omega arith
+
 -- no word is too long
 not-too-long : (m : Meaning) (left : List ℕ) → Begins m left (refused TooLong) → ⊥
 not-too-long m left b = elim b [ ]
@@ -59,9 +63,10 @@ module _ (m : Meaning) (words held : List ℕ) (position : ℕ) (tally : Tally) 
   bound : position ≤ length words
   bound = returned m words (c .done) position (c .read) .within
 
-  pub room : (tally .items + 1 < 2 ^ 64) × (tally .cells + 1 < 2 ^ 64)
-  room =
-      let l = read-length m words (c .done) position (c .read) in let b = bound in let f = few-cells (c .done) in let s = c .short in let i = c .items-are in let k = c .cells-are in
+  pub room : (i : Item) → (tally .items + 1 < 2 ^ 64) × (tally .cells + cells-made i < 2 ^ 64)
+  room i =
+      let o = one-cell i in
+      let l = read-length m words (c .done) position (c .read) in let b = bound in let f = few-cells (c .done) in let s = c .short in let n = c .items-are in let k = c .cells-are in
       (omega arith, omega arith)
 
   pub counted-on : (i : code.Item) (next : ℕ) (after : List ℕ) (more : Tally) → after ≡ held → Hands-out m held position (Ok (Some i)) next → more .items ≡ tally .items + 1 →

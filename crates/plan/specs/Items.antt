@@ -9,7 +9,8 @@ use Rattle.theory.specs.Meaning.{Meaning}
 use Rattle.plan.specs.declared.item.Item as code
 use Rattle.plan.specs.declared.item.Item.the-variants as answer
 
--- an item: an unknown with its set, a term with its code and the cells at its places, a link with its two cells
+-- An item of a plan: an unknown with its set, a term with its code and the cells at its places, a link with its two cells.
+-- A cell is an entry of a workspace that stands for a type, and goes by its number.
 pub data Item : Type 0 where
   unknown : (set : ℕ) → Item
   term : (code : ℕ) → (cells : List ℕ) → Item
@@ -39,6 +40,7 @@ following (unknown set) = []
 following (term c cells) = cells
 following (link left right) = left ∷ right ∷ []
 
+-- the first word of an item
 abbrev pub first-word : ℕ → ℕ → ℕ
 first-word kind low = kind * 2 ^ 24 + low
 
@@ -56,6 +58,7 @@ cells-made (unknown set) = 1
 cells-made (term c cells) = 1
 cells-made (link left right) = 0
 
+-- how many cells items make
 abbrev pub cells-of : List Item → ℕ
 cells-of [] = 0
 cells-of (i ∷ is) = cells-made i + cells-of is

@@ -29,12 +29,14 @@ pub record Broken-plan (m : Meaning) (words : List ℕ) (fault : PlanFault) : Ty
   pub read : Read m words items (fault .position)
   pub stands : Stands m words (fault .position) (refused (fault .refusal)) (fault .position)
 
+-- A plan that is refused is too long, or broken at an item.
 abbrev pub Broken-by : Meaning → List ℕ → PlanFault → Refusal → Type 0
 Broken-by m words fault TooLong = (most-words < length words) × (fault .position ≡ 0)
 Broken-by m words fault NotAnItem = Broken-plan m words fault
 Broken-by m words fault (NoSuchCode c) = Broken-plan m words fault
 Broken-by m words fault CutShort = Broken-plan m words fault
 
+-- What counting answers.
 abbrev pub Counts : Meaning → List ℕ → Result Tally PlanFault → Type 0
 Counts m words (Ok tally) = Whole-plan m words tally
 Counts m words (Err fault) = Broken-by m words fault (fault .refusal)

@@ -1,7 +1,3 @@
-ghost use mathlib.Core.Path.{_≡_};
-ghost use lib.ListN.{length};
-ghost use Rattle.plan.specs.Items.{item-of, written};
-
 /// An item of a plan. A cell is a numbered entry of a workspace; each unknown and each term of a plan makes one.
 #[derive(Clone, Copy, Debug)]
 pub enum Item<'a> {

@@ -13,7 +13,7 @@ use crate::refusal::Refusal;
 use alphabet::alphabet::Alphabet;
 
 /// The most words that a plan may have.
-const MOST_WORDS: usize = 8192;
+pub const MOST_WORDS: usize = 8192;
 
 /// Reads a plan from the front, and keeps its position. The places of a term that it hands out are a part of the plan.
 #[derive(Clone, Copy, Debug)]
@@ -129,7 +129,10 @@ impl<'a> Reader<'a> {
         }
         match first_item(alphabet, &words[position..]) {
             Ok(item) => {
-                self.position = position + span_of(&item);
+                *self = Reader {
+                    words,
+                    position: position + span_of(&item),
+                };
                 Ok(Some(item))
             }
             Err(refusal) => Err(PlanFault { position, refusal }),

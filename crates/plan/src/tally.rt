@@ -1,5 +1,5 @@
 ghost use mathlib.Core.Path.{_≡_};
-ghost use Prim.Native.Nat.{_+_, _<_, _^_};
+ghost use Prim.Native.Nat.{_+_, _-_, _^_, min};
 ghost use Rattle.plan.specs.Items.{item-of, cells-made};
 ghost use Rattle.plan.specs.Tallies.{Counts};
 use crate::item::Item;
@@ -17,8 +17,8 @@ pub struct Tally {
 impl Tally {
     /// The tally with one item more, up to the greatest number that there is.
     pub fn and(self, item: &Item) -> Tally
-        ensures items { λ r. ⌜ (self .items + 1 < 2 ^ 64 → r .items ≡ self .items + 1) ⌝ }
-        ensures cells { λ r. ⌜ (self .cells + 1 < 2 ^ 64 → r .cells ≡ self .cells + cells-made (item-of (now (item .entry)))) ⌝ }
+        ensures items { λ r. ⌜ r .items ≡ min (self .items + 1) (2 ^ 64 - 1) ⌝ }
+        ensures cells { λ r. ⌜ r .cells ≡ min (self .cells + cells-made (item-of (now (item .entry)))) (2 ^ 64 - 1) ⌝ }
     {
         let made = match item {
             Item::Unknown { .. } | Item::Term { .. } => 1,

@@ -9,6 +9,7 @@ use crate::tokens::unreadable_sentence;
 use plan::item::Item;
 use plan::refusal::PlanFault;
 use plan::refusal::Refusal;
+use std::alloc::AllocError;
 use std::test::*;
 
 // A code or a set, and its text.
@@ -60,10 +61,15 @@ const LOADS: [Row; 14] = [
     (96, "code 96"),
 ];
 
+// The text that is made is the one that is wanted.
+fn says(made: Result<String, AllocError>, wanted: &str) -> Result<(), Fail> {
+    check_eq(made?, wanted)
+}
+
 #[test]
 fn type_symbols(rt: LibcRuntime) -> Result<(), Fail> {
     for (code, text) in TYPES {
-        check_eq(symbol(rt.alloc(), Names::Types, code)?, text)?;
+        says(symbol(rt.alloc(), Names::Types, code), text)?;
     }
     Ok(())
 }
@@ -71,7 +77,7 @@ fn type_symbols(rt: LibcRuntime) -> Result<(), Fail> {
 #[test]
 fn load_symbols(rt: LibcRuntime) -> Result<(), Fail> {
     for (code, text) in LOADS {
-        check_eq(symbol(rt.alloc(), Names::Loads, code)?, text)?;
+        says(symbol(rt.alloc(), Names::Loads, code), text)?;
     }
     Ok(())
 }
@@ -79,14 +85,14 @@ fn load_symbols(rt: LibcRuntime) -> Result<(), Fail> {
 #[test]
 fn sets(rt: LibcRuntime) -> Result<(), Fail> {
     let heap = rt.alloc();
-    check_eq(classes(heap, Names::Types, 0)?, "")?;
-    check_eq(classes(heap, Names::Types, 1)?, "addable")?;
-    check_eq(classes(heap, Names::Types, 2)?, "class 1")?;
-    check_eq(classes(heap, Names::Loads, 2)?, "floor")?;
-    check_eq(classes(heap, Names::Loads, 3)?, "belt, floor")?;
-    check_eq(classes(heap, Names::Loads, 4)?, "class 2")?;
+    says(classes(heap, Names::Types, 0), "")?;
+    says(classes(heap, Names::Types, 1), "addable")?;
+    says(classes(heap, Names::Types, 2), "class 1")?;
+    says(classes(heap, Names::Loads, 2), "floor")?;
+    says(classes(heap, Names::Loads, 3), "belt, floor")?;
+    says(classes(heap, Names::Loads, 4), "class 2")?;
     let all = "belt, floor, class 2, class 3, class 4, class 5, class 6, class 7";
-    check_eq(classes(heap, Names::Loads, 255)?, all)
+    says(classes(heap, Names::Loads, 255), all)
 }
 
 fn term(code: u32, places: &[u32]) -> Item<'_> {
@@ -96,29 +102,41 @@ fn term(code: u32, places: &[u32]) -> Item<'_> {
 #[test]
 fn items(rt: LibcRuntime) -> Result<(), Fail> {
     let heap = rt.alloc();
-    let line = item_line(heap, Names::Loads, 0, 0, &Item::Unknown { set: 0 })?;
-    check_eq(line, "word 0: cell 0 is unknown")?;
-    let line = item_line(heap, Names::Loads, 1, 1, &Item::Unknown { set: 3 })?;
-    check_eq(line, "word 1: cell 1 is unknown of belt, floor")?;
-    let line = item_line(heap, Names::Loads, 2, 2, &term(19, &[]))?;
-    check_eq(line, "word 2: cell 2 is tote mark 3")?;
-    let line = item_line(heap, Names::Loads, 3, 3, &term(48, &[2]))?;
-    check_eq(line, "word 3: cell 3 is pallet over cell 2")?;
-    let line = item_line(heap, Names::Loads, 5, 4, &term(81, &[2, 3, 2]))?;
-    check_eq(line, "word 5: cell 4 is kit mark 1 over cells 2, 3, 2")?;
-    let line = item_line(heap, Names::Loads, 9, 5, &Item::Link { left: 1, right: 4 })?;
-    check_eq(line, "word 9: cells 1 and 4 are linked")
+    says(
+        item_line(heap, Names::Loads, 0, 0, &Item::Unknown { set: 0 }),
+        "word 0: cell 0 is unknown",
+    )?;
+    says(
+        item_line(heap, Names::Loads, 1, 1, &Item::Unknown { set: 3 }),
+        "word 1: cell 1 is unknown of belt, floor",
+    )?;
+    says(
+        item_line(heap, Names::Loads, 2, 2, &term(19, &[])),
+        "word 2: cell 2 is tote mark 3",
+    )?;
+    says(
+        item_line(heap, Names::Loads, 3, 3, &term(48, &[2])),
+        "word 3: cell 3 is pallet over cell 2",
+    )?;
+    says(
+        item_line(heap, Names::Loads, 5, 4, &term(81, &[2, 3, 2])),
+        "word 5: cell 4 is kit mark 1 over cells 2, 3, 2",
+    )?;
+    says(
+        item_line(heap, Names::Loads, 9, 5, &Item::Link { left: 1, right: 4 }),
+        "word 9: cells 1 and 4 are linked",
+    )
 }
 
 #[test]
 fn numbers(rt: LibcRuntime) -> Result<(), Fail> {
     let heap = rt.alloc();
-    check_eq(counts(heap, 6, 5, 12)?, "6 items, 5 cells, 12 words")?;
-    check_eq(counts(heap, 1, 1, 1)?, "1 item, 1 cell, 1 word")?;
-    check_eq(counts(heap, 0, 0, 0)?, "0 items, 0 cells, 0 words")?;
-    check_eq(word_text(heap, 0x1300_000a)?, "0x1300000a")?;
-    check_eq(word_text(heap, 0)?, "0x00000000")?;
-    check_eq(word_text(heap, u32::MAX)?, "0xffffffff")
+    says(counts(heap, 6, 5, 12), "6 items, 5 cells, 12 words")?;
+    says(counts(heap, 1, 1, 1), "1 item, 1 cell, 1 word")?;
+    says(counts(heap, 0, 0, 0), "0 items, 0 cells, 0 words")?;
+    says(word_text(heap, 0x1300_000a), "0x1300000a")?;
+    says(word_text(heap, 0), "0x00000000")?;
+    says(word_text(heap, u32::MAX), "0xffffffff")
 }
 
 fn at(position: usize, refusal: Refusal) -> PlanFault {
@@ -129,29 +147,24 @@ fn at(position: usize, refusal: Refusal) -> PlanFault {
 fn refusals(rt: LibcRuntime) -> Result<(), Fail> {
     let heap = rt.alloc();
     let words = [0x1100_0000, 0x1400_0000];
-    let sentence = refusal_sentence(heap, at(0, Refusal::TooLong), &[0; 8193])?;
-    check_eq(
-        sentence,
+    says(
+        refusal_sentence(heap, at(0, Refusal::TooLong), &[0; 8193]),
         "refused with 10 at word 0: the plan has 8193 words, and a plan has at most 8192",
     )?;
-    let sentence = refusal_sentence(heap, at(1, Refusal::NotAnItem), &words)?;
-    check_eq(
-        sentence,
+    says(
+        refusal_sentence(heap, at(1, Refusal::NotAnItem), &words),
         "refused with 9 at word 1: 0x14000000 is not the first word of an item",
     )?;
-    let sentence = refusal_sentence(heap, at(2, Refusal::NotAnItem), &words)?;
-    check_eq(
-        sentence,
+    says(
+        refusal_sentence(heap, at(2, Refusal::NotAnItem), &words),
         "refused with 9 at word 2: 0x00000000 is not the first word of an item",
     )?;
-    let sentence = refusal_sentence(heap, at(2, Refusal::NoSuchCode(96)), &words)?;
-    check_eq(
-        sentence,
+    says(
+        refusal_sentence(heap, at(2, Refusal::NoSuchCode(96)), &words),
         "refused with 3 at word 2: the alphabet has no code 96",
     )?;
-    let sentence = refusal_sentence(heap, at(7, Refusal::CutShort), &words)?;
-    check_eq(
-        sentence,
+    says(
+        refusal_sentence(heap, at(7, Refusal::CutShort), &words),
         "refused with 10 at word 7: the plan ends inside this item",
     )
 }
@@ -161,17 +174,14 @@ fn unreadable_words(rt: LibcRuntime) -> Result<(), Fail> {
     let heap = rt.alloc();
     let plain =
         "line 3: cannot read \"12x4\" as a word (decimal, or hexadecimal after 0x, below 4294967296)";
-    check_eq(unreadable_sentence(heap, 3, b"12x4")?, plain)?;
+    says(unreadable_sentence(heap, 3, b"12x4"), plain)?;
     let odd =
         "line 1: cannot read \"\\xc3\\xa9 ~\\x22\\x5c\\x7f\\x1f\" as a word (decimal, or hexadecimal after 0x, below 4294967296)";
-    check_eq(
-        unreadable_sentence(heap, 1, b"\xc3\xa9 ~\"\\\x7f\x1f")?,
-        odd,
-    )?;
+    says(unreadable_sentence(heap, 1, b"\xc3\xa9 ~\"\\\x7f\x1f"), odd)?;
     let whole =
         "line 1: cannot read \"7777777777777777777777777777777777777777\" as a word (decimal, or hexadecimal after 0x, below 4294967296)";
-    check_eq(unreadable_sentence(heap, 1, &[b'7'; 40])?, whole)?;
+    says(unreadable_sentence(heap, 1, &[b'7'; 40]), whole)?;
     let cut =
         "line 1: cannot read \"7777777777777777777777777777777777777777...\" as a word (decimal, or hexadecimal after 0x, below 4294967296)";
-    check_eq(unreadable_sentence(heap, 1, &[b'7'; 50])?, cut)
+    says(unreadable_sentence(heap, 1, &[b'7'; 50]), cut)
 }

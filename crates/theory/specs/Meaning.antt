@@ -14,6 +14,7 @@ has set k = eqb ((set / 2 ^ k) % 2) 1
 
 -- A layering names two codes, called Pair and List, by which Pair over a type t and List over t is List over t.
 pub data Layering : Type 0 where
+  -- no layering
   flat : Layering
   layered-by : (pair list : ℕ) → Layering
 
@@ -28,6 +29,7 @@ pub record Meaning : Type 0 where
   pub places : ℕ → ℕ
   -- the set of the classes that admit the symbol
   pub classes : ℕ → ℕ
+  -- Pair and List, where they are named
   pub layering : Layering
 
 -- Every class of one set is in the other.
@@ -99,10 +101,12 @@ pub record Layers (m : Meaning) (pair list : ℕ) : Type 0 where
   pub list-places : m .places list ≡ 1
   pub alike : (k : ℕ) → has (m .classes pair) k ≡ has (m .classes list) k
 
+-- Where the layering names two codes, they are Pair and List.
 abbrev pub Layers-by : Meaning → Layering → Type 0
 Layers-by m flat = Unit {0}
 Layers-by m (layered-by pair list) = Layers m pair list
 
+-- The law of Pair and List.
 abbrev pub Layered : Meaning → Type 0
 Layered m = Layers-by m (m .layering)
 

@@ -1,5 +1,6 @@
 use Rattle.std.proofs.shelf.Results.{err-from-errBy}
-use Rattle.plan.proofs.Counted.{counted-none, counted-on, counted-whole, counted-broken, moves-on, room}
+use Rattle.plan.specs.Items.{item-of}
+use Rattle.plan.proofs.Counted.{counted-none, counted-on, counted-whole, counted-broken, moves-on, room, not-cut}
 use Rattle.plan.proofs.tally.count_items.Needs as need
 
 pub loop-item-holds : need.loop-item-holds
@@ -15,8 +16,8 @@ loop-item-less g c = moves-on _ _ _ _ _ (c .loop-item .inv) (c .in-Some .item) _
 
 pub loop-item-again : need.loop-item-again
 loop-item-again g c =
-    let r = room _ _ _ _ _ (c .loop-item .inv) in
-    counted-on _ _ _ _ _ (c .loop-item .inv) (c .in-Some .item) _ _ _ (c .next .ensures .same) (rw (c .in-Some .is) at (c .in-Continue-item .ensures tt .hands-out)) (c .and-tally .ensures .items (r .0)) (c .and-tally .ensures .cells (r .1))
+    let r = room _ _ _ _ _ (c .loop-item .inv) (item-of (c .in-Some .item)) in
+    counted-on _ _ _ _ _ (c .loop-item .inv) (c .in-Some .item) _ _ _ (c .next .ensures .same) (rw (c .in-Some .is) at (c .in-Continue-item .ensures tt .hands-out)) (not-cut _ _ (c .and-tally .ensures .items) (r .0)) (not-cut _ _ (c .and-tally .ensures .cells) (r .1))
 
 pub returns : need.returns
 returns g c = counted-whole _ _ _ _ _ (c .loop-item .inv) _ (rw (c .in-rest .is) at (c .in-Continue-item .ensures tt .hands-out))

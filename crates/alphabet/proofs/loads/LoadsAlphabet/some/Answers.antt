@@ -1,6 +1,6 @@
 use borrow.Author.Needs.{needs}
 use Prim.Native.Nat.{_≤_}
-use Rattle.theory.proofs.ClassSets.{included-below}
+use Rattle.theory.proofs.SetsAsNumbers.{included-below}
 use Rattle.alphabet.specs.Loads.{classes}
 use Rattle.alphabet.proofs.loads.LoadsAlphabet.some.Needs as need
 

@@ -1,6 +1,6 @@
 use borrow.Author.Needs.{needs}
 use Prim.Native.Nat.{_≤_}
-use Rattle.theory.proofs.ClassSets.{included-below}
+use Rattle.theory.proofs.SetsAsNumbers.{included-below}
 use Rattle.alphabet.specs.Types.{classes}
 use Rattle.alphabet.proofs.types.TypesAlphabet.some.Needs as need
 

@@ -1,0 +1,4 @@
+pub mod CellLists
+pub mod Layout
+pub mod Contents
+pub mod Kinds

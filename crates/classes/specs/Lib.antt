@@ -1,0 +1,4 @@
+pub mod Forests
+pub mod Views
+pub mod Rewinding
+pub mod Moves

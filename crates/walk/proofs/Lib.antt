@@ -1,0 +1,9 @@
+pub mod Colors
+pub mod Once
+pub mod Orders
+pub mod Arrays
+pub mod Standings
+pub mod Measures
+pub mod Goes
+pub mod Ends
+pub mod Rows

@@ -1,0 +1,4 @@
+pub mod Views
+pub mod Stands
+pub mod Order
+pub mod Rows

@@ -1,0 +1,6 @@
+pub mod graph;
+pub mod moves;
+pub mod reads;
+pub mod state;
+#[cfg(test)]
+mod tests;
