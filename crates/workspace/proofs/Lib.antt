@@ -1,0 +1,4 @@
+pub mod Missing
+pub mod Certified
+pub mod Determined
+pub mod Promised
