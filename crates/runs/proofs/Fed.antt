@@ -25,7 +25,7 @@ use Rattle.runs.specs.Feeding.{fault-of, Item-call, unknown-done, term-done, l
 use Rattle.runs.specs.Promise.{Feeds, Feed-has-one-answer}
 
 -- where an item stands, a plan may hold it, and it has a word
-item-proper : (m : Meaning) (i : plan.Item) (left : List ℕ) → Begins m left (item i) → plan.Proper m i
+pub item-proper : (m : Meaning) (i : plan.Item) (left : List ℕ) → Begins m left (item i) → plan.Proper m i
 item-proper m i left (at-item rest p e) = p
 
 item-within : (m : Meaning) (i : plan.Item) (left : List ℕ) → Begins m left (item i) → 0 < length left
@@ -48,20 +48,20 @@ module _ (m : Meaning) (lawful : Lawful m) where
   item-once s d i o q t u (link-done {left = left} {right = right} r x) (link-done r′ y) =
       let e = d .join-one left right r r′ t u x y in record { answer = ap fault-of (e .answer); left = e .left }
 
-  item-leads : (s t : State) (i : plan.Item) (o : Option Fault) → plan.Proper m i → Reached m s → Item-call m s i o t → Reached m t
+  pub item-leads : (s t : State) (i : plan.Item) (o : Option Fault) → plan.Proper m i → Reached m s → Item-call m s i o t → Reached m t
   item-leads s t i o p h (unknown-done {set = set} r x) = after-unknown set p h x
   item-leads s t i o p h (term-done {code = code} {cells = cells} r x) = after-term code cells h x
   item-leads s t i o p h (link-done {left = left} {right = right} r x) = after-join left right h x
 
   module _ (words : List ℕ) where
-    leads : (p k : ℕ) (s t : State) (a : Feed-answer) → Reached m s → Feeding m words p k s a t → Reached m t
+    pub leads : (p k : ℕ) (s t : State) (a : Feed-answer) → Reached m s → Feeding m words p k s a t → Reached m t
     leads p k s t a h (all-done st) = h
     leads p k s t a h (no-item st) = h
     leads p k s t a h (item-refused {i = i} st c) = item-leads s t i _ (item-proper m i (drop p words) (st .begins)) h c
     leads p k s t a h (item-done {n = n} {t = mid} {i = i} st c f) =
         leads n (suc k) mid t a (item-leads s mid i _ (item-proper m i (drop p words) (st .begins)) h c) f
 
-    reads-one : (p n n′ : ℕ) (r q : Reading) → Stands m words p r n → Stands m words p q n′ → (q ≡ r) × (n′ ≡ n)
+    pub reads-one : (p n n′ : ℕ) (r q : Reading) → Stands m words p r n → Stands m words p q n′ → (q ≡ r) × (n′ ≡ n)
     reads-one p n n′ r q x y = stands-once m (lawful .small-codes) words p r q n n′ x y
 
     -- one item behind a position gives one place to go on from

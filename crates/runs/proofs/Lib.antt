@@ -1,2 +1,4 @@
 pub mod Fed
 pub mod Running
+pub mod Restricted
+pub mod Judged

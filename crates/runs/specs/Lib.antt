@@ -1,3 +1,4 @@
 pub mod Feeding
 pub mod Runs
 pub mod Promise
+pub mod Judging
