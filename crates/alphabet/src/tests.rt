@@ -194,7 +194,11 @@ fn each_type_code() -> Result<(), Fail> {
         check_row(&Types, row)?;
     }
     for parameters in 0..=8 {
-        check_eq(Types.places(16 + parameters), parameters + 1)?;
+        let code = 16 + parameters;
+        check(Types.known(code))?;
+        check_eq(Types.plain(code), code)?;
+        check_eq(Types.places(code), parameters + 1)?;
+        check_eq(Types.classes(code), 0)?;
     }
     check_eq(Types.layering(), Some(Layering { pair: 4, list: 5 }))
 }
