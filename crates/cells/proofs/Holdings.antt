@@ -1,10 +1,10 @@
 -- What a store of cells says of each cell. Assumes nothing.
-use Rattle.std.proofs.Common.{◌≡◌, ℕ, ◌+◌, ◌-◌, ◌<◌, ◌≤◌, List, [], length, get_or, take, drop, Some, sym, refl, ap, ◌∙◌, subst, arith}
+use Rattle.std.proofs.Common.{◌≡◌, ℕ, ◌+◌, ◌-◌, ◌<◌, ◌≤◌, List, length, get_or, take, drop, Some, sym, ap, ◌∙◌, subst, arith}
 use Rattle.std.specs.List.{slice_get}
 use Rattle.std.proofs.lemmas.List.FromFn.{length-map-range_with_len}
 use Rattle.theory.specs.States.{Cell, unknown, term}
 use Rattle.theory.proofs.Lookups.{nth_below}
-use Rattle.cells.specs.CellLists.{places_in, places_at, places_found, code_at, code_found, IsTerm}
+use Rattle.cells.specs.CellLists.{places_in, places_at, places_found, code_at, IsTerm}
 use Rattle.cells.specs.Layout.{cell_in}
 use Rattle.cells.specs.Contents.{cells_of}
 use Rattle.cells.specs.declared.storage.Cells.{Cells}

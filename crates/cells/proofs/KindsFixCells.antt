@@ -1,5 +1,5 @@
 -- The kind and the places of a cell, and the cell itself: each fixes the other. Assumes nothing.
-use Rattle.std.proofs.Common.{◌≡◌, ℕ, ◌+◌, ◌<◌, ◌≤◌, List, Some, sym, refl, ap, ◌∙◌, subst, arith}
+use Rattle.std.proofs.Common.{◌≡◌, ℕ, List, Some, ap, arith}
 use Rattle.std.specs.List.{slice_get}
 use Rattle.theory.specs.States.{Cell, unknown, term}
 use Rattle.cells.specs.CellLists.{places_at, code_at, places_found, code_found, IsTerm}

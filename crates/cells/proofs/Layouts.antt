@@ -1,5 +1,5 @@
 -- What arrays that hold cells say of each cell. Assumes nothing.
-use Rattle.std.proofs.Common.{◌≡◌, ℕ, ◌+◌, ◌-◌, ◌<◌, ◌≤◌, min, List, [], ◌∷◌, map, length, get_or, take, drop, Some, sym, refl, ap, ◌∙◌, subst, inl, inr, ⊎_elim, arith, length-take}
+use Rattle.std.proofs.Common.{◌≡◌, ℕ, ◌+◌, ◌-◌, ◌<◌, ◌≤◌, List, [], map, length, get_or, take, drop, Some, sym, ap, ◌∙◌, subst, ⊎_elim, arith, length-take}
 use Rattle.std.specs.List.{range_with_len, slice_get}
 use Rattle.std.proofs.lemmas.Option.{slice_get-get_or}
 use Rattle.std.proofs.lemmas.List.{get_or-take, get_or-drop}
@@ -7,8 +7,8 @@ use Rattle.std.proofs.lemmas.Bool.{lt-ltb, le-ltb, cases_lt}
 use Rattle.std.proofs.lemmas.List.FromFn.{get_or-map-range_with_len, length-map-range_with_len}
 use Rattle.theory.specs.States.{Cell, unknown, term}
 use Rattle.theory.proofs.Lookups.{nth_below}
-use Rattle.cells.specs.CellLists.{places_of, code_of}
-use Rattle.cells.specs.Layout.{cell_from, cell_in, cells_in, Within, Lower, Short, Headed, Bare}
+use Rattle.cells.specs.CellLists.{places_of}
+use Rattle.cells.specs.Layout.{cell_from, cell_in, cells_in, Lower, Short, Headed}
 
 -- a number stands that is below the length
 pub nth_is_get_d : (xs : List ℕ) (k x : ℕ) → slice_get xs k ≡ Some x → get_or xs k 0 ≡ x

@@ -1,4 +1,6 @@
 //! The checker of line plans: lists the items of a plan, or says which word is wrong and why.
+#![tactic(auto)]
+
 mod command;
 mod files;
 mod plans;

@@ -1,6 +1,6 @@
 -- How many cells have another parent, when one cell gets another parent or its own back. Assumes nothing.
 use Rattle.std.proofs.Common.{◌≡◌, ℕ, zero, suc, ◌+◌, ◌<◌, ◌≤◌, List, get_or, sym, refl, ap, ◌∙◌, arith}
-use native.Mathlib.Decide.{ℕ_discrete}
+use Rattle.std.proofs.Math.Decide.{ℕ_discrete}
 use Rattle.theory.specs.IfSo.{if_so}
 use Rattle.theory.proofs.IfSo.{if_so_yes, if_so_no}
 use Rattle.classes.specs.Forests.{lowered}

@@ -1,6 +1,6 @@
 -- The facts that let every way end stay when a cell is added, a class goes under another, or the last link is undone. Assumes nothing.
-use Rattle.std.proofs.Common.{◌≡◌, ℕ, ◌+◌, ◌<◌, ◌≤◌, ◌⊎◌, List, length, get_or, set, sym, refl, ap, ◌∙◌, ⊎_elim, add-one, arith}
-use native.Mathlib.Decide.{ℕ_discrete}
+use Rattle.std.proofs.Common.{◌≡◌, ℕ, ◌+◌, ◌<◌, ◌≤◌, List, length, get_or, set, sym, refl, ap, ◌∙◌, ⊎_elim, add-one, arith}
+use Rattle.std.proofs.Math.Decide.{ℕ_discrete}
 use Rattle.std.proofs.lemmas.List.{get_or-set_same, get_or-set_other}
 use Rattle.classes.specs.Forests.{time_in, lowered, Inside, Counted, Unlinked, Rising, Trailed}
 use Rattle.classes.proofs.Times.{time_hit, time_miss, time_same, time_never, time_range}

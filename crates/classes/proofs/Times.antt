@@ -1,6 +1,6 @@
 -- When each cell was linked, over a trail that grows or shrinks by one link. Assumes nothing.
 use Rattle.std.proofs.Common.{◌≡◌, ℕ, zero, suc, ◌<◌, ◌≤◌, ◌⊎◌, List, get_or, sym, refl, ◌∙◌, inl, inr, ⊎_elim, arith}
-use native.Mathlib.Decide.{ℕ_discrete}
+use Rattle.std.proofs.Math.Decide.{ℕ_discrete}
 use Rattle.theory.proofs.IfSo.{if_so_yes, if_so_no}
 use Rattle.classes.specs.Forests.{time_in}
 

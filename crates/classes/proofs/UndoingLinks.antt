@@ -1,6 +1,6 @@
 -- What was held at a mark stays what undoing gives, over a link more, a link less, and a new shape of a class linked since. Assumes nothing.
 use Rattle.std.proofs.Common.{◌≡◌, ℕ, zero, suc, ◌+◌, ◌-◌, ◌<◌, ◌≤◌, List, get_or, set, sym, refl, ap, ◌∙◌, subst, arith}
-use native.Mathlib.Decide.{ℕ_discrete}
+use Rattle.std.proofs.Math.Decide.{ℕ_discrete}
 use Rattle.std.proofs.lemmas.List.{set-set, set_comm}
 use Rattle.classes.specs.declared.forest.Classes.{Classes}
 use Rattle.classes.specs.Forests.{label_in}

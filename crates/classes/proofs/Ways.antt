@@ -1,6 +1,6 @@
 -- Every way up ends, at one cell, and a link moves that end. Assumes nothing.
 use Rattle.std.proofs.Common.{◌≡◌, ℕ, zero, suc, ◌+◌, ◌<◌, ◌≤◌, ◌⊎◌, List, get_or, sym, refl, ap, ◌∙◌, inl, inr, ⊎_elim, arith}
-use native.Mathlib.Decide.{ℕ_discrete, dec_lt}
+use Rattle.std.proofs.Math.Decide.{ℕ_discrete, dec_lt}
 use Rattle.theory.specs.Updates.{sent}
 use Rattle.theory.proofs.Updates.{sent_hit, sent_miss}
 use Rattle.theory.proofs.IfSo.{if_so_yes, if_so_no}

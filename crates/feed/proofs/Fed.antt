@@ -1,20 +1,17 @@
 -- Feed has one answer. Assumes nothing.
-use Rattle.std.proofs.Common.{◌≡◌, ℕ, zero, suc, ◌+◌, ◌-◌, ◌<◌, ◌≤◌, List, [], ◌∷◌, ◌++◌, length, drop, Some, None, Ok, Err, Option, Result, sym, refl, ap, ◌∙◌, subst, arith, length-append, length-drop}
-use native.Mathlib.Decide.{dec_le}
+use Rattle.std.proofs.Common.{◌≡◌, ℕ, zero, suc, ◌-◌, ◌<◌, ◌≤◌, List, length, drop, Some, None, Option, sym, refl, ap, subst, arith, length-append, length-drop}
+use Rattle.std.proofs.Math.Decide.{dec_le}
 use Rattle.theory.specs.Meaning.{Meaning, Lawful}
 use Rattle.theory.specs.States.{State, empty_state}
 use Rattle.theory.proofs.Impossible.{impossible}
-use Rattle.plan.specs.declared.refusal.Refusal.{Refusal}
-use Rattle.plan.specs.declared.refusal.Refusal.TheVariants.{TooLong}
 use Rattle.plan.specs.Items as plan
-use Rattle.plan.specs.Reading.{most_words, Reading, item, refused, ended, Begins, at_item, span, Stands}
+use Rattle.plan.specs.Reading.{most_words, Reading, item, refused, ended, Begins, at_item, Stands}
 use Rattle.plan.proofs.Unique.{one_reading, stands_once}
 use Rattle.workspace.specs.declared.fault.Fault.{Fault}
-use Rattle.workspace.specs.Calls.{UnknownCall, TermCall, JoinCall}
 use Rattle.workspace.specs.Promise.{Reached, opened, after_unknown, after_term, after_join, Same, Determined}
 use Rattle.workspace.proofs.Determined.{calls_have_one_answer}
-use Rattle.feed.specs.Feeding.{fault_of, ItemCall, unknown_done, term_done, link_done, FeedAnswer, fed, unread, undone, Feeding, all_done, no_item, item_refused, item_done, FeedCall, too_long, from_empty}
-use Rattle.feed.specs.Answering.{Feeds, FeedHasOneAnswer}
+use Rattle.feed.specs.Feeding.{fault_of, ItemCall, unknown_done, term_done, link_done, FeedAnswer, unread, undone, Feeding, all_done, no_item, item_refused, item_done, FeedCall, too_long, from_empty}
+use Rattle.feed.specs.Answering.{FeedHasOneAnswer}
 
 -- where an item stands, a plan may hold it, and it has a word
 pub item_proper : (m : Meaning) (i : plan.Item) (left : List ℕ) → Begins m left (item i) → plan.Proper m i

@@ -6,14 +6,14 @@ use Rattle.theory.specs.States.{State, empty_state, with_equation}
 use Rattle.theory.specs.Assignments.{AssignsUnclassed, Assigns}
 use Rattle.theory.proofs.Impossible.{impossible}
 use Rattle.plan.specs.Items as plan
-use Rattle.plan.specs.Reading.{Reading, item, ended, Stands, Read, none_read, read_on}
+use Rattle.plan.specs.Reading.{item, Stands, Read, none_read, read_on}
 use Rattle.workspace.specs.declared.fault.Fault.{Fault}
 use Rattle.workspace.specs.declared.fault.Fault.TheVariants.{NoTypes, NoClasses}
 use Rattle.workspace.specs.Calls.{unknown_full, unknown_no_code, unknown_made, term_no_code, term_wrong_count, term_no_cell, term_full, term_made, join_no_cell, join_no_types, join_no_classes, join_accepted, NoneUnclassed, NoneClassed}
 use Rattle.workspace.specs.Promise.{Reached, opened}
 use Rattle.workspace.proofs.Promised.{reached_states_keep_the_promise}
-use Rattle.feed.specs.Feeding.{fault_of, ItemCall, unknown_done, term_done, link_done, FeedAnswer, fed, undone, Feeding, all_done, no_item, item_refused, item_done, FeedCall, too_long, from_empty}
-use Rattle.feed.specs.Judging.{with_item, with_items, ItemsFrom, no_more, one_more, Accepted, FirstBadLink, FeedJudges, PlansAreJudged}
+use Rattle.feed.specs.Feeding.{ItemCall, unknown_done, term_done, link_done, FeedAnswer, fed, undone, Feeding, all_done, item_refused, item_done, FeedCall, from_empty}
+use Rattle.feed.specs.Judging.{with_item, with_items, ItemsFrom, no_more, one_more, Accepted, FirstBadLink, PlansAreJudged}
 use Rattle.feed.proofs.Fed.{reads_one, leads}
 use Rattle.feed.proofs.Restricted.{without_items}
 

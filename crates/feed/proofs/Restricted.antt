@@ -1,10 +1,9 @@
 -- An assignment of a plan is one of its front. Assumes nothing.
-use Rattle.std.proofs.Common.{◌≡◌, ℕ, zero, suc, ◌<◌, List, [], ◌∷◌, ◌++◌, length, Some, refl, arith, length-append}
-use Rattle.std.specs.List.{slice_get}
+use Rattle.std.proofs.Common.{ℕ, suc, List, [], ◌∷◌, arith, length-append}
 use Rattle.theory.specs.Meaning.{Meaning}
 use Rattle.theory.specs.Types.{Tree}
 use Rattle.theory.specs.States.{State, Cell, unknown, term, with_cell, with_equation}
-use Rattle.theory.specs.Assignments.{AssignsUnclassed, Assigns}
+use Rattle.theory.specs.Assignments.{Assigns}
 use Rattle.theory.proofs.Lookups.{nth_front}
 use Rattle.plan.specs.Items as plan
 use Rattle.feed.specs.Judging.{with_item, with_items}

@@ -1,6 +1,6 @@
 -- What feed answers to a plan, and the state that it leaves: the plan's items, done as calls one after another on an empty workspace. Assumes nothing.
-use Rattle.std.specs.Prelude.{◌≡◌, ℕ, suc, ◌<◌, ◌≤◌, List, [], ◌∷◌, length, Some, None, Ok, Err, Option, Result}
-use Rattle.theory.specs.Meaning.{Meaning, Lawful}
+use Rattle.std.specs.Prelude.{ℕ, suc, ◌<◌, ◌≤◌, List, length, Some, None, Ok, Err, Option, Result}
+use Rattle.theory.specs.Meaning.{Meaning}
 use Rattle.theory.specs.States.{State, empty_state}
 use Rattle.plan.specs.declared.refusal.Refusal.{Refusal}
 use Rattle.plan.specs.declared.refusal.Refusal.TheVariants.{TooLong}

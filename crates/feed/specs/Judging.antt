@@ -6,10 +6,9 @@ use Rattle.theory.specs.States.{State, unknown, term, empty_state, with_cell, wi
 use Rattle.theory.specs.Assignments.{AssignsUnclassed, Assigns}
 use Rattle.plan.specs.Items as plan
 use Rattle.plan.specs.Reading.{item, ended, Stands, Read}
-use Rattle.workspace.specs.declared.fault.Fault.{Fault}
 use Rattle.workspace.specs.declared.fault.Fault.TheVariants.{NoTypes, NoClasses}
 use Rattle.workspace.specs.Calls.{NoneUnclassed, NoneClassed}
-use Rattle.feed.specs.Feeding.{FeedAnswer, fed, undone, FeedCall}
+use Rattle.feed.specs.Feeding.{fed, undone, FeedCall}
 
 -- the state with the cell or the link of an item more
 abbrev pub with_item : State → plan.Item → State

@@ -1,11 +1,10 @@
 -- An answer of the reader from what stands at its position. Assumes nothing.
-use Rattle.std.proofs.Common.{◌≡◌, ℕ, ◌+◌, ◌≤◌, List, [], length, drop, Some, None, Ok, Err, Option, Result, refl, ap, arith}
+use Rattle.std.proofs.Common.{◌≡◌, ℕ, ◌+◌, ◌≤◌, List, length, drop, Option, Result}
 use Rattle.std.proofs.lemmas.List.{drop_all}
 use Rattle.theory.specs.Meaning.{Meaning, SmallCodes}
 use Rattle.plan.specs.declared.item.Item as code
 use Rattle.plan.specs.declared.refusal.PlanFault.{PlanFault}
-use Rattle.plan.specs.Items.{item_of, written}
-use Rattle.plan.specs.Reading.{Reading, ended, Begins, at_end, span, Stands}
+use Rattle.plan.specs.Reading.{ended, Begins, at_end, span, Stands}
 use Rattle.plan.specs.Answers.{reading_of, Names, HandsOut}
 use Rattle.plan.proofs.Unique.{stands_once}
 use Rattle.plan.proofs.Back.{goes_on}

@@ -1,10 +1,10 @@
 -- Items written out one after another give back the words that were read. Assumes nothing.
-use Rattle.std.proofs.Common.{◌≡◌, ℕ, ◌+◌, ◌<◌, ◌≤◌, List, [], ◌∷◌, ◌++◌, length, take, drop, sym, refl, ap, ◌∙◌, append_assoc, arith, length-append, length-drop, take-append-drop}
+use Rattle.std.proofs.Common.{◌≡◌, ℕ, ◌+◌, ◌≤◌, List, [], ◌∷◌, ◌++◌, length, take, drop, sym, refl, ap, ◌∙◌, append_assoc, arith, length-append, length-drop, take-append-drop}
 use Rattle.std.proofs.lemmas.List.{take_at, take_all, length-take-le, flat_map_more}
 use Rattle.theory.specs.Meaning.{Meaning}
 use Rattle.plan.specs.Items.{Item, written, all_written}
 use Rattle.plan.specs.Reading.{Reading, item, refused, ended, Begins, at_end, at_item, Stands, Read, none_read, read_on, GivesBack}
-use Rattle.plan.specs.Answers.{and_item, Whole, Goes_on}
+use Rattle.plan.specs.Answers.{Goes_on}
 
 -- the words of a list up to a position, and then some more of them
 take_on : (words part rest : List ℕ) (position : ℕ) → position ≤ length words → drop position words ≡ part ++ rest →

@@ -1,13 +1,13 @@
 -- Counting the items of a plan while they are read. Assumes nothing.
-use Rattle.std.proofs.Common.{◌≡◌, ℕ, ◌+◌, ◌-◌, ◌^◌, ◌<◌, ◌≤◌, min, List, [], ◌∷◌, ◌++◌, length, take, drop, Some, None, Ok, Err, Option, Result, sym, refl, ap, ◌∙◌, subst, arith, length-append, length-drop}
+use Rattle.std.proofs.Common.{◌≡◌, ℕ, ◌+◌, ◌-◌, ◌^◌, ◌<◌, ◌≤◌, min, List, [], ◌∷◌, ◌++◌, length, drop, Some, None, Ok, Err, sym, refl, ap, ◌∙◌, arith, length-append, length-drop}
 use Rattle.theory.specs.Meaning.{Meaning}
 use Rattle.plan.specs.declared.item.Item as code
 use Rattle.plan.specs.declared.refusal.PlanFault.{PlanFault}
 use Rattle.plan.specs.declared.refusal.Refusal.{Refusal}
 use Rattle.plan.specs.declared.refusal.Refusal.TheVariants.{TooLong, NotAnItem, NoSuchCode, CutShort}
 use Rattle.plan.specs.declared.tally.Tally.{Tally}
-use Rattle.plan.specs.Items.{Item, unknown, term, link, item_of, written, all_written, cells_made, cells_of}
-use Rattle.plan.specs.Reading.{most_words, Reading, item, refused, ended, Begins, at_end, Stands, Read, none_read, read_on}
+use Rattle.plan.specs.Items.{Item, unknown, term, link, item_of, cells_made, cells_of}
+use Rattle.plan.specs.Reading.{most_words, refused, ended, Begins, at_end, Read, none_read, read_on}
 use Rattle.plan.specs.Answers.{HandsOut}
 use Rattle.plan.specs.Tallies.{WholePlan, BrokenPlan, BrokenBy}
 use Rattle.plan.proofs.Back.{returned}

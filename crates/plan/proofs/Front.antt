@@ -1,9 +1,9 @@
 -- What words begin with, by their first word and their length. Assumes nothing.
-use Rattle.std.proofs.Common.{◌≡◌, ℕ, ◌+◌, ◌-◌, ◌^◌, ◌<◌, ◌≤◌, true, false, List, [], ◌∷◌, ◌++◌, length, get_or, take, drop, sym, refl, ap, ◌∙◌, subst, arith}
+use Rattle.std.proofs.Common.{◌≡◌, ℕ, ◌-◌, ◌^◌, ◌<◌, ◌≤◌, true, false, List, [], ◌∷◌, length, get_or, take, drop, refl, arith}
 use Rattle.theory.specs.Meaning.{Meaning}
 use Rattle.plan.specs.declared.refusal.Refusal.TheVariants.{NotAnItem, NoSuchCode, CutShort}
 use Rattle.plan.specs.Items.{unknown, term, link, first_word}
-use Rattle.plan.specs.Reading.{First, Reading, item, refused, Begins, at_item, at_other, at_code}
+use Rattle.plan.specs.Reading.{First, item, refused, Begins, at_item, at_other, at_code}
 use Rattle.plan.specs.Steps.{Headed}
 use Rattle.plan.proofs.Unique.{term_begins, link_begins}
 

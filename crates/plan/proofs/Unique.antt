@@ -1,12 +1,11 @@
 -- Every position of a plan has exactly one reading. Assumes nothing.
-use Rattle.std.proofs.Common.{◌≡◌, ℕ, zero, suc, ◌+◌, ◌-◌, ◌^◌, ◌<◌, ◌≤◌, Bool, true, false, List, [], ◌∷◌, ◌++◌, length, take, drop, replicate, sym, refl, ap, ◌∙◌, append_assoc, arith, length-append, take-append-drop}
-use native.Mathlib.Decide.{dec_lt}
-use lib.ListN.{length-replicate}
+use Rattle.std.proofs.Common.{◌≡◌, ℕ, ◌+◌, ◌-◌, ◌^◌, ◌<◌, Bool, true, false, List, [], ◌∷◌, ◌++◌, length, take, drop, replicate, sym, refl, ap, ◌∙◌, arith, length-append, take-append-drop}
+use Rattle.std.proofs.Math.Decide.{dec_lt}
+use Rattle.std.proofs.lemmas.List.{length-replicate}
 use Rattle.std.proofs.lemmas.List.{take_at, length-take-le}
 use Rattle.theory.specs.Meaning.{Meaning, SmallCodes}
-use Rattle.plan.specs.declared.refusal.Refusal.{Refusal}
 use Rattle.plan.specs.declared.refusal.Refusal.TheVariants.{NotAnItem, NoSuchCode, CutShort}
-use Rattle.plan.specs.Items.{Item, unknown, term, link, first_word, written, following, Proper}
+use Rattle.plan.specs.Items.{Item, unknown, term, link, first_word, written, Proper}
 use Rattle.plan.specs.Reading.{First, of_unknown, of_term, of_link, Reading, item, refused, ended, Begins, at_end, at_item, at_other, at_code, at_part, span, Stands, OneReading}
 use Rattle.plan.proofs.Heads.{Head, unknown_head, term_head, link_head, other_head, head_of}
 

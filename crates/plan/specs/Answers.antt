@@ -1,5 +1,5 @@
 -- What the reader of a plan answers. Assumes nothing.
-use Rattle.std.specs.Prelude.{◌≡◌, ℕ, ◌<◌, ◌≤◌, List, [], ◌∷◌, ◌++◌, length, take, Some, None, Ok, Err, Option, Result}
+use Rattle.std.specs.Prelude.{◌≡◌, ℕ, List, [], ◌∷◌, ◌++◌, take, Some, None, Ok, Err, Option, Result}
 use Rattle.theory.specs.Meaning.{Meaning}
 use Rattle.plan.specs.declared.item.Item as code
 use Rattle.plan.specs.declared.refusal.PlanFault.{PlanFault}

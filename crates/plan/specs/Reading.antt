@@ -1,9 +1,9 @@
 -- Which item stands at a position of a plan, and where the next one begins. Assumes nothing.
-use Rattle.std.specs.Prelude.{◌≡◌, ℕ, ◌+◌, ◌^◌, ◌<◌, ◌≤◌, false, List, [], ◌∷◌, ◌++◌, length, take, drop}
+use Rattle.std.specs.Prelude.{◌≡◌, ℕ, ◌+◌, ◌^◌, ◌<◌, false, List, [], ◌∷◌, ◌++◌, length, take, drop}
 use Rattle.theory.specs.Meaning.{Meaning, SmallCodes}
 use Rattle.plan.specs.declared.refusal.Refusal.{Refusal}
-use Rattle.plan.specs.declared.refusal.Refusal.TheVariants.{TooLong, NotAnItem, NoSuchCode, CutShort}
-use Rattle.plan.specs.Items.{Item, unknown, term, link, kind, low, first_word, written, all_written, Proper}
+use Rattle.plan.specs.declared.refusal.Refusal.TheVariants.{NotAnItem, NoSuchCode, CutShort}
+use Rattle.plan.specs.Items.{Item, first_word, written, all_written, Proper}
 
 -- the most words that a plan may have
 abbrev pub most_words : ℕ

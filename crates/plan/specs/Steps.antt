@@ -1,5 +1,5 @@
 -- What the parts of the reader answer. Assumes nothing.
-use Rattle.std.specs.Prelude.{◌≡◌, ℕ, ◌^◌, ◌<◌, List, [], ◌∷◌, length, Some, None, Ok, Err, Option, Result, slice_index}
+use Rattle.std.specs.Prelude.{◌≡◌, ℕ, ◌^◌, ◌<◌, List, length, Some, None, Ok, Err, Option, Result, slice_index}
 use Rattle.theory.specs.Meaning.{Meaning}
 use Rattle.plan.specs.declared.head.Head.{Head}
 use Rattle.plan.specs.declared.head.Head.TheVariants as head

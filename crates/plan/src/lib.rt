@@ -1,4 +1,6 @@
 // Line plans: words that say which unknowns and terms there are, and which cells are linked.
+#![tactic(auto)]
+
 mod head;
 pub mod item;
 pub mod reader;

@@ -34,7 +34,7 @@ fn head_of(word: u32) -> Option<Head>
 // The item that begins at the front of the words.
 fn first_item<'a, A: Alphabet>(alphabet: &A, words: &'a [u32]) -> Result<Item<'a>, Refusal>
     requires { 0 < length words.now }
-    ensures { Finds (meaning alphabet.now) words.now result }
+    ensures { Finds (A.meaning alphabet.now) words.now result }
 {
     let Some(head) = head_of(words[0]) else {
         return Err(Refusal::NotAnItem);
@@ -53,7 +53,7 @@ fn term_after<'a, A: Alphabet>(
     words: &'a [u32],
 ) -> Result<Item<'a>, Refusal>
     requires { (Headed (first_word 0x12 code) words.now) × (code < 2 ^ 24) }
-    ensures { Finds (meaning alphabet.now) words.now result }
+    ensures { Finds (A.meaning alphabet.now) words.now result }
 {
     if !alphabet.known(code) {
         return Err(Refusal::NoSuchCode(code));
@@ -118,7 +118,7 @@ impl<'a> Reader<'a> {
     /// The next item, or none at the end of the plan. Where it is refused, the reader stays where it is.
     pub fn next<A: Alphabet>(&mut self, alphabet: &A) -> Result<Option<Item<'a>>, PlanFault>
         ensures same { self.new.words.now ≡ self.old.words.now }
-        ensures hands_out { HandsOut (meaning alphabet.now) self.old.words.now self.old.position result self.new.position }
+        ensures hands_out { HandsOut (A.meaning alphabet.now) self.old.words.now self.old.position result self.new.position }
     {
         let words = self.words;
         let position = self.position;

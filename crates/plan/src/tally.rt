@@ -33,7 +33,7 @@ impl Tally {
 
 /// Reads a whole plan and counts its items and the cells that they make, or names the first item that is refused.
 pub fn count_items<A: Alphabet>(alphabet: &A, words: &[u32]) -> Result<Tally, PlanFault>
-    ensures { Counts (meaning alphabet.now) words.now result }
+    ensures { Counts (A.meaning alphabet.now) words.now result }
 {
     let mut reader = Reader::open(words)?;
     let mut tally = Tally { items: 0, cells: 0 };

@@ -1,6 +1,6 @@
 -- A list with commas, one text longer. Assumes nothing.
 use Rattle.std.proofs.Common.{◌≡◌, ℕ, ◌+◌, ◌<◌, List, [], ◌∷◌, ◌++◌, map, length, get_or, take, codes, sym, ap, ◌∙◌, append_assoc, arith, length-take}
-use lib.ListN.{length-map}
+use Rattle.std.proofs.lemmas.List.{length-map}
 use Rattle.std.proofs.lemmas.List.{map_more}
 use Rattle.report.specs.Texts.{comma_separated_text}
 

@@ -1,4 +1,6 @@
 // The texts that are printed about plans. Each is made as a `String`, and fails only for want of memory.
+#![tactic(auto)]
+
 pub mod counts;
 pub mod items;
 pub mod names;

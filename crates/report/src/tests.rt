@@ -61,7 +61,8 @@ const LOADS: [Row; 14] = [
 
 // The text that is made is the one that is wanted.
 fn says(rt: &impl Abort, made: Result<String, AllocError>, wanted: &str) -> Result<(), Fail> {
-    assert_eq!(rt; made?, wanted);
+    let text = made?;
+    assert_eq!(rt; text.as_str(), wanted);
     Ok(())
 }
 

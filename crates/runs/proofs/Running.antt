@@ -1,15 +1,13 @@
 -- Runs keep the promise. Assumes nothing.
-use Rattle.std.proofs.Common.{◌≡◌, ℕ, ◌<◌, List, [], ◌∷◌, ◌++◌, Result, refl, ap}
+use Rattle.std.proofs.Common.{List, refl, ap}
 use Rattle.theory.specs.Meaning.{Meaning, Lawful}
 use Rattle.theory.specs.States.{State}
-use Rattle.workspace.specs.declared.fault.Fault.{Fault}
 use Rattle.workspace.specs.Promise.{Reached, opened, after_unknown, after_term, after_join, Same, Determined}
 use Rattle.workspace.proofs.Determined.{calls_have_one_answer}
 use Rattle.workspace.proofs.Promised.{reached_states_keep_the_promise}
-use Rattle.feed.specs.Feeding.{FeedAnswer}
-use Rattle.runs.specs.Runs.{Call, unknown, term, join, show, feed, Outcome, made, joined, shown, fed, Step, unknown_step, term_step, join_step, show_step, feed_step, Run, opening, and_then}
+use Rattle.runs.specs.Runs.{Call, unknown, term, join, show, feed, Outcome, made, joined, fed, Step, unknown_step, term_step, join_step, show_step, feed_step, Run, opening, and_then}
 use Rattle.feed.specs.Answering.{Feeds}
-use Rattle.runs.specs.Promise.{RunPromise, RunsKeepThePromise}
+use Rattle.runs.specs.Promise.{RunsKeepThePromise}
 use Rattle.feed.proofs.Fed.{feed_has_one_answer}
 
 module _ (m : Meaning) (lawful : Lawful m) where

@@ -1,5 +1,5 @@
 -- What holds of every run. Assumes nothing.
-use Rattle.std.specs.Prelude.{◌≡◌, ℕ, List, Result}
+use Rattle.std.specs.Prelude.{ℕ, List, Result}
 use Rattle.theory.specs.Meaning.{Meaning, Lawful, Agree}
 use Rattle.theory.specs.States.{State}
 use Rattle.theory.specs.SameEquations.{SameEquations}

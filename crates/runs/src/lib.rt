@@ -1,2 +1,4 @@
 //! Runs of calls, and what holds of them.
+#![tactic(auto)]
+
 pub mod theorems;

@@ -1,6 +1,6 @@
 -- Searching the numbers below a bound. Assumes nothing.
 use Rattle.std.proofs.Common.{◌≡◌, ℕ, zero, suc, ◌+◌, ◌^◌, ◌<◌, Bool, true, false, T, ◌⊎◌, refl, inl, inr, arith}
-use native.Mathlib.Decide.{ℕ_discrete}
+use Rattle.std.proofs.Math.Decide.{ℕ_discrete}
 use Rattle.theory.specs.Meaning.{has, Meaning, Admits, Lawful}
 use Rattle.theory.proofs.Impossible.{impossible}
 use Rattle.theory.proofs.SetsAsNumbers.{has_below}

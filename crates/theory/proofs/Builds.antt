@@ -1,6 +1,6 @@
 -- What `build` makes of a code and types. Assumes nothing.
 use Rattle.std.proofs.Common.{◌≡◌, ℕ, ◌<◌, true, T, ◌⊎◌, sym, refl, ap, ◌∙◌, inl, inr, arith}
-use native.Mathlib.Decide.{ℕ_discrete}
+use Rattle.std.proofs.Math.Decide.{ℕ_discrete}
 use Rattle.theory.specs.Meaning.{has, Layering, flat, layered_by, Meaning, Lawful}
 use Rattle.theory.specs.IfSo.{if_so}
 use Rattle.theory.specs.Types.{Tree, node, tree_discrete, Trees, end, and, size, count, one, two, top, list_of, PairOverList, IsType, AreTypes, build_by, build}

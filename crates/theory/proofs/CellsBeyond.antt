@@ -1,6 +1,6 @@
 -- A cell that does not stand is joined to itself alone. Assumes nothing.
 use Rattle.std.proofs.Common.{◌≡◌, ℕ, suc, ◌<◌, List, [], ◌∷◌, length, Some, sym, refl, ◌∙◌, inl, arith}
-use native.Mathlib.Decide.{dec_lt}
+use Rattle.std.proofs.Math.Decide.{dec_lt}
 use Rattle.std.specs.List.{slice_get}
 use Rattle.theory.specs.Meaning.{Meaning}
 use Rattle.theory.specs.IfSo.{if_so}

@@ -1,6 +1,6 @@
 -- A walk that is done with the changed classes is enough for a new rank. Assumes nothing.
 use Rattle.std.proofs.Common.{◌≡◌, ℕ, ◌<◌, ◌⊎◌, List, [], map, Some, sym, refl, ap, ◌∙◌, inl, inr, arith}
-use native.Mathlib.Decide.{ℕ_discrete}
+use Rattle.std.proofs.Math.Decide.{ℕ_discrete}
 use Rattle.std.specs.List.{slice_get}
 use Rattle.theory.specs.IfSo.{if_so}
 use Rattle.theory.specs.Certificates.{Shape, no_term, over, Falling}

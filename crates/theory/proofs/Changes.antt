@@ -1,6 +1,6 @@
 -- What the moves of a closure change, and that no more than that is to be looked at again. Assumes nothing.
 use Rattle.std.proofs.Common.{◌≡◌, ℕ, ◌⊎◌, List, [], ◌∷◌, sym, refl, ap, ◌∙◌, inl, inr, arith}
-use native.Mathlib.Decide.{ℕ_discrete}
+use Rattle.std.proofs.Math.Decide.{ℕ_discrete}
 use Rattle.theory.specs.Meaning.{Meaning, Lawful}
 use Rattle.theory.specs.States.{State}
 use Rattle.theory.specs.Certificates.{Shape, over, Falling, ClassAdmitted, ClassesAdmitted}
@@ -91,7 +91,7 @@ module _ {label label' : ℕ → ℕ} {shape shape' : ℕ → Shape} {changed : 
       go (yes p) (no n) = record {
         by_terms = λ i set u e. absurd (n (own_label i r e));
         code = lawful.has_leaf.0;
-        code_known = lawful.has_leaf.1.is_Known;
+        code_known = lawful.has_leaf.1.is_known;
         by_code = λ free i set u e. absurd (n (own_label i r e));
       }
       go (no n) own = record {

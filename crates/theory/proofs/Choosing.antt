@@ -1,6 +1,6 @@
 -- What meanings that agree have in common. Assumes nothing.
-use Rattle.std.proofs.Common.{◌≡◌, ℕ, ◌^◌, ◌<◌, ◌≤◌, true, T, is_some, Some, None, Option, sym, refl, subst, arith}
-use Rattle.theory.specs.Meaning.{Meaning, Layering, flat, layered_by, Layers, LayersBy, Layered, Leaf, HasLeaf, Lawful, Agree, Admits, has, Choice, NoChoice, Chosen, ChoiceByMeaning}
+use Rattle.std.proofs.Common.{ℕ, Some, None, sym, refl}
+use Rattle.theory.specs.Meaning.{Meaning, Agree, Choice, NoChoice, ChoiceByMeaning}
 
 module _ (m n : Meaning) (agree : Agree m n) where
   pub agree_back : Agree n m

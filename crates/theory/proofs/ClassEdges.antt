@@ -1,9 +1,8 @@
 -- What an edge from class to class says of the types: it is a second place of a Pair, or leads strictly inside. Assumes nothing.
 use Rattle.std.proofs.Common.{◌≡◌, ℕ, zero, suc, ◌<◌, ◌≤◌, true, ◌⊎◌, List, [], ◌∷◌, map, length, Some, sym, refl, ap, ◌∙◌, inl, inr, arith}
-use native.Mathlib.Decide.{ℕ_discrete}
+use Rattle.std.proofs.Math.Decide.{ℕ_discrete}
 use Rattle.std.specs.List.{slice_get}
 use Rattle.theory.specs.Meaning.{Layering, flat, layered_by, Meaning, Lawful}
-use Rattle.theory.specs.Types.{one}
 use Rattle.theory.specs.States.{State, Formed}
 use Rattle.theory.specs.Joined.{Joined}
 use Rattle.theory.specs.ListLike.{ListLike, joined_list, joined_loop}

@@ -1,9 +1,8 @@
 -- Whether a class of cells has a term. Assumes nothing.
 use Rattle.std.proofs.Common.{◌≡◌, ℕ, zero, suc, List, [], ◌∷◌, Some, refl}
-use native.Mathlib.Decide.{ℕ_discrete}
+use Rattle.std.proofs.Math.Decide.{ℕ_discrete}
 use Rattle.std.specs.List.{slice_get}
 use Rattle.theory.specs.States.{Cell, unknown, term}
-use Rattle.theory.specs.Joined.{places}
 use Rattle.theory.proofs.Impossible.{impossible}
 
 -- a term of the class r, among the cells `cs`

@@ -1,6 +1,6 @@
 -- In a state with a certificate the classes of the unknowns are met, or they bar it. Assumes nothing.
 use Rattle.std.proofs.Common.{◌≡◌, ℕ, ◌<◌, true, ◌⊎◌, length, sym, refl, ap, ◌∙◌, inl, inr}
-use native.Mathlib.Decide.{ℕ_discrete, dec_lt}
+use Rattle.std.proofs.Math.Decide.{ℕ_discrete, dec_lt}
 use Rattle.theory.specs.Meaning.{Meaning, Admits, Lawful}
 use Rattle.theory.specs.States.{State, Formed}
 use Rattle.theory.specs.Certificates.{Shape, no_term, over, Certificate, ClassAdmitted, ClassesAdmitted}
@@ -20,7 +20,7 @@ module _ {m : Meaning} (lawful : Lawful m) {s : State} (formed : Formed m s) {la
   no_cells r none_of = record {
     by_terms = λ i set u e j c ps t q. absurd (none_of i (nth_below s.cells i u) e);
     code = lawful.has_leaf.0;
-    code_known = lawful.has_leaf.1.is_Known;
+    code_known = lawful.has_leaf.1.is_known;
     by_code = λ free i set u e. absurd (none_of i (nth_below s.cells i u) e);
   }
 

@@ -1,6 +1,6 @@
 -- The closure comes to its end: with a certificate, or with a clash. Assumes nothing.
 use Rattle.std.proofs.Common.{◌≡◌, ℕ, zero, suc, ◌+◌, ◌<◌, ◌≤◌, ◌⊎◌, List, [], ◌∷◌, map, length, Some, refl, ap, ◌∙◌, inl, inr, arith, length-append}
-use native.Mathlib.Decide.{ℕ_discrete}
+use Rattle.std.proofs.Math.Decide.{ℕ_discrete}
 use Rattle.std.specs.List.{slice_get}
 use Rattle.theory.specs.Meaning.{Meaning, Lawful}
 use Rattle.theory.specs.States.{State, Formed}

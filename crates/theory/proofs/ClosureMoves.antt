@@ -1,6 +1,6 @@
 -- Each move of a closure keeps its invariant, and the measure falls. Assumes nothing.
 use Rattle.std.proofs.Common.{◌≡◌, ℕ, ◌<◌, List, [], ◌∷◌, length, ap, arith, length-append}
-use native.Mathlib.Decide.{ℕ_discrete}
+use Rattle.std.proofs.Math.Decide.{ℕ_discrete}
 use Rattle.theory.specs.Meaning.{Meaning, Lawful}
 use Rattle.theory.specs.States.{State, Formed}
 use Rattle.theory.specs.Joined.{Joined}

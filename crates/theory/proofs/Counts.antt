@@ -1,6 +1,6 @@
 -- More numbers below a bound pass a weaker test. Assumes nothing.
 use Rattle.std.proofs.Common.{◌≡◌, ℕ, zero, suc, ◌+◌, ◌<◌, ◌≤◌, arith}
-use native.Mathlib.Decide.{ℕ_discrete}
+use Rattle.std.proofs.Math.Decide.{ℕ_discrete}
 use Rattle.theory.specs.IfSo.{if_so}
 use Rattle.theory.specs.Counts.{count_below}
 

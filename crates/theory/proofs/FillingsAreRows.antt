@@ -1,6 +1,6 @@
 -- The fillings of a listing are rows of types that assignments give its cells. Assumes nothing.
 use Rattle.std.proofs.Common.{◌≡◌, ℕ, zero, suc, ◌≤◌, T, ◌⊎◌, List, [], ◌∷◌, length, Some, sym, refl, ap, ◌∙◌, inl, inr, arith}
-use native.Mathlib.Decide.{ℕ_discrete}
+use Rattle.std.proofs.Math.Decide.{ℕ_discrete}
 use Rattle.std.specs.List.{slice_get}
 use Rattle.theory.specs.Meaning.{has, Meaning, Admits, Lawful}
 use Rattle.theory.specs.Types.{Tree, Trees, top, types, IsType}

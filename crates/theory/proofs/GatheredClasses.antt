@@ -1,7 +1,7 @@
 -- The set of a class of cells, gathered from its unknowns. Assumes nothing.
 use Rattle.std.proofs.Common.{◌≡◌, ℕ, zero, suc, T, ◌⊎◌, List, [], ◌∷◌, Some, sym, refl, inl, inr}
-use native.Mathlib.Decide.{ℕ_discrete}
-use lib.Bits.{bit_or}
+use Rattle.std.proofs.Math.Decide.{ℕ_discrete}
+use Rattle.std.specs.Int.Bits.{bit_or}
 use Rattle.std.specs.List.{slice_get}
 use Rattle.theory.specs.Meaning.{has, Meaning}
 use Rattle.theory.specs.IfSo.{if_so}

@@ -1,6 +1,6 @@
 -- In a finite graph a rank falls along each edge, or there is a cycle. Assumes nothing.
 use Rattle.std.proofs.Common.{◌≡◌, ℕ, zero, suc, ◌<◌, ◌≤◌, ◌⊎◌, List, [], ◌∷◌, length, Some, inl, inr, arith}
-use native.Mathlib.Decide.{ℕ_discrete}
+use Rattle.std.proofs.Math.Decide.{ℕ_discrete}
 use Rattle.std.specs.List.{slice_get}
 use Rattle.theory.specs.Walks.{In, Cycle, DoneInOrder, none_done, bottom, frame, at_start, Walked}
 use Rattle.theory.proofs.Members.{in_first, in_split, in_none}

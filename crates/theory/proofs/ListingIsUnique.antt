@@ -1,7 +1,6 @@
 -- Lists of cells that are joined have one listing. Assumes nothing.
 use Rattle.std.proofs.Common.{◌≡◌, ℕ, ◌<◌, List, [], ◌∷◌, ◌++◌, Some, sym, refl, ap, ◌∙◌, ap₂, arith}
 use Rattle.theory.specs.Meaning.{Meaning, Lawful}
-use Rattle.theory.specs.Types.{one}
 use Rattle.theory.specs.States.{term, State, Term, Formed}
 use Rattle.theory.specs.Joined.{Joined, symmetric, transitive, places, JoinedLists, both_end, both_next}
 use Rattle.theory.specs.Codes.{CodesAgree, one_code, pair_and_list, list_and_pair}

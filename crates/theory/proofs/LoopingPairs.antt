@@ -1,10 +1,9 @@
 -- Pairs whose second place is in their own class. Assumes nothing.
 use Rattle.std.proofs.Common.{◌≡◌, ℕ, ◌<◌, ◌⊎◌, List, [], ◌∷◌, Some, refl, ap, ◌∙◌, inl, inr, arith}
-use native.Mathlib.Decide.{ℕ_discrete}
+use Rattle.std.proofs.Math.Decide.{ℕ_discrete}
 use Rattle.std.specs.List.{slice_get}
 use Rattle.theory.specs.Meaning.{Layering, flat, layered_by, Meaning}
 use Rattle.theory.specs.States.{State, Term}
-use Rattle.theory.specs.Joined.{places}
 use Rattle.theory.proofs.Impossible.{impossible}
 use Rattle.theory.proofs.Pairwise.{Loops, Pairwise}
 

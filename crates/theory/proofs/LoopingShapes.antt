@@ -1,6 +1,6 @@
 -- A looping Pair may get the shape of the List that it is: nothing is lost, and nothing is brought together. Assumes nothing.
 use Rattle.std.proofs.Common.{◌≡◌, ℕ, List, [], ◌∷◌, sym, refl, ap, ◌∙◌}
-use native.Mathlib.Decide.{ℕ_discrete}
+use Rattle.std.proofs.Math.Decide.{ℕ_discrete}
 use Rattle.theory.specs.Meaning.{Layering, flat, layered_by, Meaning, Lawful}
 use Rattle.theory.specs.States.{State}
 use Rattle.theory.specs.Joined.{transitive}

@@ -1,6 +1,6 @@
 -- A merge leaves one class less. Assumes nothing.
 use Rattle.std.proofs.Common.{◌≡◌, ℕ, ◌<◌, List}
-use native.Mathlib.Decide.{ℕ_discrete}
+use Rattle.std.proofs.Math.Decide.{ℕ_discrete}
 use Rattle.theory.specs.Meaning.{Meaning}
 use Rattle.theory.specs.States.{State}
 use Rattle.theory.specs.Certificates.{Shape}

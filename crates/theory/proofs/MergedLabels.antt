@@ -1,6 +1,6 @@
 -- Labels after a merge of two classes. Assumes nothing.
 use Rattle.std.proofs.Common.{◌≡◌, ℕ, sym, refl, ap, ◌∙◌}
-use native.Mathlib.Decide.{ℕ_discrete}
+use Rattle.std.proofs.Math.Decide.{ℕ_discrete}
 use Rattle.theory.specs.Updates.{sent}
 use Rattle.theory.proofs.Updates.{sent_hit, sent_miss}
 

@@ -1,6 +1,6 @@
 -- A certificate stays one where a cell is added. Assumes nothing.
 use Rattle.std.proofs.Common.{◌≡◌, ℕ, suc, ◌<◌, ◌⊎◌, List, [], ◌∷◌, ◌++◌, length, Some, sym, refl, ap, ◌∙◌, inl, inr, arith, length-append}
-use native.Mathlib.Decide.{ℕ_discrete}
+use Rattle.std.proofs.Math.Decide.{ℕ_discrete}
 use Rattle.std.specs.List.{slice_get}
 use Rattle.theory.specs.Meaning.{Meaning, Lawful}
 use Rattle.theory.specs.IfSo.{if_so}
@@ -152,7 +152,7 @@ module _ {m : Meaning} (lawful : Lawful m) {s : State} (c : Cell) {label rank : 
       go (term d ps) is new (yes q) = record {
         by_terms = λ i set u e. impossible (cc (new_unknown i set (nth_pushed_split s.cells c i (unknown set) u) q e));
         code = lawful.has_leaf.0;
-        code_known = lawful.has_leaf.1.is_Known;
+        code_known = lawful.has_leaf.1.is_known;
         by_code = λ free i set u e. impossible (cc (new_unknown i set (nth_pushed_split s.cells c i (unknown set) u) q e));
       }
       go (unknown set) is new (yes q) = record {

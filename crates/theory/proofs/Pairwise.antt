@@ -3,7 +3,7 @@ use Rattle.std.proofs.Common.{◌≡◌, ℕ, ◌<◌, ◌⊎◌, List, [], ◌�
 use Rattle.std.specs.List.{slice_get}
 use Rattle.theory.specs.Meaning.{Meaning}
 use Rattle.theory.specs.States.{State, Term, Equation}
-use Rattle.theory.specs.Joined.{PairTerm, ListTerm, Joined, symmetric, transitive, places}
+use Rattle.theory.specs.Joined.{PairTerm, ListTerm, Joined, symmetric, transitive}
 use Rattle.theory.specs.Codes.{CodesAgree}
 use Rattle.theory.proofs.Lookups.{same_map_nth}
 use Rattle.theory.proofs.Respects.{Respects, joined_same}

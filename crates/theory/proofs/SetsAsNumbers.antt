@@ -1,7 +1,8 @@
 -- Sets of classes as numbers. Assumes nothing.
 use Rattle.std.proofs.Common.{◌≡◌, ℕ, zero, suc, ◌+◌, ◌-◌, ◌/◌, ◌%◌, ◌^◌, ◌<◌, ◌≤◌, max, T, ◌⊎◌, sym, refl, ap, ◌∙◌, inl, inr, div-one, arith, eqb→eq, shr-shr}
-use native.Mathlib.Decide.{dec_lt}
-use lib.Bits.{bit_or, or_step, or_shr}
+use Rattle.std.proofs.Math.Decide.{dec_lt}
+use Rattle.std.specs.Int.Bits.{bit_or, or_step}
+use Rattle.std.proofs.lemmas.Nat.{or_shr}
 use Rattle.theory.specs.Meaning.{has, Included}
 
 pub has_one : (x k : ℕ) → T (has x k) → (x / 2 ^ k) % 2 ≡ 1

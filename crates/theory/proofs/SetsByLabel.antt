@@ -1,7 +1,7 @@
 -- The set of a class of cells decides whether the classes of its unknowns are met. Assumes nothing.
 use Rattle.std.proofs.Common.{◌≡◌, ℕ, T, ◌⊎◌, List, sym, ap, ◌∙◌, inl, inr}
-use native.Mathlib.Decide.{ℕ_discrete}
-use lib.Bits.{bit_or}
+use Rattle.std.proofs.Math.Decide.{ℕ_discrete}
+use Rattle.std.specs.Int.Bits.{bit_or}
 use Rattle.theory.specs.Meaning.{has, layered_by, Meaning, Admits, Lawful}
 use Rattle.theory.specs.States.{State, Term, Formed}
 use Rattle.theory.specs.Joined.{transitive}
@@ -58,7 +58,7 @@ module _ {m : Meaning} (lawful : Lawful m) {s : State} (formed : Formed m s) {la
       by_terms = λ i u_set u e j c ps t q k h.
           admits_term r d j c ps qs is t q k (admits k (set_of.gathers k (record { cell = i; set = u_set; stands = u; in_class = e; has_it = h })));
       code = lawful.has_leaf.0;
-      code_known = lawful.has_leaf.1.is_Known;
+      code_known = lawful.has_leaf.1.is_known;
       by_code = λ free i u_set u e. absurd (termed r d qs is (ap label (sym e) ∙ certificate.consistent.label_fixed i ∙ e) free);
     };
     barred_by_shape = λ r d set qs is own set_of differ. by_shape r d set qs is own set_of differ (admits_or_not m set d);

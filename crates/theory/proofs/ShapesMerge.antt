@@ -1,6 +1,6 @@
 -- The shapes of two joined classes merge, or there is a clash. Assumes nothing.
 use Rattle.std.proofs.Common.{◌≡◌, ℕ, zero, suc, ◌<◌, ◌≤◌, ◌⊎◌, List, [], ◌∷◌, length, Some, sym, refl, ap, ◌∙◌, inl, inr, arith}
-use native.Mathlib.Decide.{ℕ_discrete}
+use Rattle.std.proofs.Math.Decide.{ℕ_discrete}
 use Rattle.std.specs.List.{slice_get}
 use Rattle.theory.specs.Meaning.{Layering, flat, layered_by, Meaning, Lawful}
 use Rattle.theory.specs.States.{State, Term, Formed}

@@ -22,7 +22,7 @@ module _ {m : Meaning} (lawful : Lawful m) where
 
   pub leaf_is_type : IsType m leaf_type
   unfolding leaf_type
-  leaf_is_type = build_is_type lawful lawful.has_leaf.0 end lawful.has_leaf.1.is_Known lawful.has_leaf.1.is_plain (sym lawful.has_leaf.1.bare) tt
+  leaf_is_type = build_is_type lawful lawful.has_leaf.0 end lawful.has_leaf.1.is_known lawful.has_leaf.1.is_plain (sym lawful.has_leaf.1.bare) tt
 
   -- a type of a code: the leaf in each of its places
   pub some_type : ℕ → Tree

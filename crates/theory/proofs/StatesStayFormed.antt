@@ -86,6 +86,6 @@ pub empty_admitted : {m : Meaning} → Lawful m → ClassesAdmitted m empty_stat
 empty_admitted lawful r = record {
   by_terms = λ i set u. impossible (cc);
   code = lawful.has_leaf.0;
-  code_known = lawful.has_leaf.1.is_Known;
+  code_known = lawful.has_leaf.1.is_known;
   by_code = λ free i set u. impossible (cc);
 }

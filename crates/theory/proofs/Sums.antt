@@ -1,6 +1,6 @@
 -- Sums of a function's values below a bound, of which two change. Assumes nothing.
 use Rattle.std.proofs.Common.{◌≡◌, ℕ, zero, suc, ◌+◌, ◌<◌, ◌≤◌, sym, refl, ap, arith}
-use native.Mathlib.Decide.{ℕ_discrete}
+use Rattle.std.proofs.Math.Decide.{ℕ_discrete}
 use Rattle.theory.specs.IfSo.{if_so}
 use Rattle.theory.specs.Counts.{sum_below}
 use Rattle.theory.proofs.IfSo.{if_so_yes, if_so_no}

@@ -1,7 +1,6 @@
 -- A small alphabet for examples: number, of code 1, Pair, of code 4, and List, of code 5. Assumes nothing.
 use Rattle.std.proofs.Common.{◌≡◌, ℕ, zero, suc, ◌^◌, ◌<◌, ◌≤◌, Bool, true, false, refl, arith}
 use Rattle.theory.specs.Meaning.{layered_by, Meaning, Lawful}
-use Rattle.theory.specs.States.{unknown}
 use Rattle.theory.proofs.Impossible.{impossible}
 
 abbrev toy_known : ℕ → Bool

@@ -1,6 +1,6 @@
 -- Labels and shapes with one class changed: at that class, and at any other. Assumes nothing.
 use Rattle.std.proofs.Common.{◌≡◌, ℕ}
-use native.Mathlib.Decide.{ℕ_discrete}
+use Rattle.std.proofs.Math.Decide.{ℕ_discrete}
 use Rattle.theory.specs.Certificates.{Shape}
 use Rattle.theory.specs.Updates.{sent, replaced}
 use Rattle.theory.proofs.IfSo.{if_so_yes, if_so_no}

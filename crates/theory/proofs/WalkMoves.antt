@@ -1,9 +1,8 @@
 -- Each move of the walk keeps its invariant. Assumes nothing.
 use Rattle.std.proofs.Common.{◌≡◌, ℕ, suc, ◌≤◌, ◌⊎◌, List, ◌∷◌, length, Some, sym, ap, ◌∙◌, inl, inr, arith}
-use native.Mathlib.Decide.{ℕ_discrete}
+use Rattle.std.proofs.Math.Decide.{ℕ_discrete}
 use Rattle.std.specs.List.{slice_get}
 use Rattle.theory.specs.Walks.{In, Route, edge, further, DoneInOrder, done_with, Stack, frame, nodes, DoneBefore, Walking, nowhere, at_start, above, WalkLaws}
-use Rattle.theory.specs.Closures.{none_left}
 use Rattle.theory.proofs.Lookups.{nth_below}
 use Rattle.theory.proofs.Members.{in_rest, in_split, in_none}
 

@@ -1,4 +1,6 @@
 // The theorems of the solver: each function carries one in its contract, and does nothing else.
+#![tactic(auto)]
+
 ghost use Rattle.theory.specs.Meaning.{ChoiceByMeaning};
 ghost use Rattle.theory.specs.Theorems.{StatesStayFormed, JoinedCellsHaveOneType, ChoiceExtendsToAssignment, ChoiceFixesAssignment, ConsistentStateHasUnclassedAssignment, JoinedCellsHaveOneLabel, CertifiedStateHasAssignment, ListingIsUnique, ListingExists, RowsAreFillings, FillingsAreRows, SameEquationsJoinTheSame, SameEquationsHaveSameListings, ClashLeavesNoAssignment, BarredLeavesNoAssignment, EveryStateHasAVerdict, NextEquationHasAVerdict, EmptyStateIsCertified, NewCellKeepsCertificate, NewCellKeepsClasses};
 ghost use Rattle.theory.specs.ShapesOfClasses.{ShapesAreBacked, ShapesSayHowCellsAreWritten};

@@ -1,6 +1,6 @@
 -- Less is left to do after each move of a walk. Assumes nothing.
 use Rattle.std.proofs.Common.{◌≡◌, ℕ, ◌<◌, ◌≤◌, List, length, get_or, set, arith, get_or-set_other, get_or-set_same}
-use native.Mathlib.Decide.{ℕ_discrete}
+use Rattle.std.proofs.Math.Decide.{ℕ_discrete}
 use Rattle.theory.proofs.Counts.{count_below_le, count_below_lt}
 use Rattle.walk.specs.Stands.{untouched_count}
 

@@ -1,6 +1,6 @@
 -- A walk is done with its nodes in an order in which edges lead back. Assumes nothing.
 use Rattle.std.proofs.Common.{◌≡◌, ℕ, zero, suc, ◌<◌, ◌⊎◌, List, ◌∷◌, get_or, Some, sym, ap, inl, inr, arith}
-use native.Mathlib.Decide.{ℕ_discrete}
+use Rattle.std.proofs.Math.Decide.{ℕ_discrete}
 use Rattle.std.specs.List.{slice_get}
 use Rattle.theory.specs.Walks.{In, DoneInOrder, done_with}
 use Rattle.theory.proofs.Members.{in_first, in_rest, in_split, in_none}

@@ -1,6 +1,6 @@
 -- Each move of a walk keeps what stands of it. Assumes nothing.
 use Rattle.std.proofs.Common.{◌≡◌, ℕ, suc, ◌+◌, ◌<◌, ◌≤◌, ◌⊎◌, List, [], ◌∷◌, length, get_or, set, Some, refl, inl, inr, arith, get_or-set_other, get_or-set_same}
-use native.Mathlib.Decide.{ℕ_discrete}
+use Rattle.std.proofs.Math.Decide.{ℕ_discrete}
 use Rattle.std.specs.List.{slice_get}
 use Rattle.theory.specs.Walks.{In, none_done, Stack, bottom, frame, nodes, Walking, nowhere}
 use Rattle.theory.proofs.Members.{in_first, in_rest, in_split, in_none}

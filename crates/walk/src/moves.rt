@@ -56,11 +56,11 @@ impl Walk {
 impl Walk {
     // One move: the top node is done, or goes to its next edge, or the walk goes along its edge; or that edge comes round.
     fn step<G: Graph>(&mut self, graph: &G) -> Option<u16>
-        requires small { Small (edges graph.now) (size graph.now) }
-        requires stands { Stands (edges graph.now) (size graph.now) self.old }
+        requires small { Small (G.edges graph.now) (G.size graph.now) }
+        requires stands { Stands (G.edges graph.now) (G.size graph.now) self.old }
         requires frame { 0 < self.old.depth }
-        ensures onward { Onward (edges graph.now) (size graph.now) self.old self.new }
-        ensures moved { Moved (edges graph.now) self.old result self.new }
+        ensures onward { Onward (G.edges graph.now) (G.size graph.now) self.old self.new }
+        ensures moved { Moved (G.edges graph.now) self.old result self.new }
     {
         let (node, k) = self.top();
         let Some(next) = graph.edge(node, k) else {
@@ -82,10 +82,10 @@ impl Walk {
 
     // Moves until the stack is empty or the walk comes round.
     fn run<G: Graph>(&mut self, graph: &G) -> Result<(), u16>
-        requires small { Small (edges graph.now) (size graph.now) }
-        requires stands { Stands (edges graph.now) (size graph.now) self.old }
-        ensures onward { Onward (edges graph.now) (size graph.now) self.old self.new }
-        ensures ended { Ended (edges graph.now) self.new result }
+        requires small { Small (G.edges graph.now) (G.size graph.now) }
+        requires stands { Stands (G.edges graph.now) (G.size graph.now) self.old }
+        ensures onward { Onward (G.edges graph.now) (G.size graph.now) self.old self.new }
+        ensures ended { Ended (G.edges graph.now) self.new result }
     {
         while self.depth > 0 {
             if let Some(y) = self.step(graph) {
@@ -98,14 +98,14 @@ impl Walk {
     /// Walks from `start` until everything that its edges lead to is done, or until the walk comes round: then the edge that the top
     /// node is at leads to the answer, which is on the stack.
     pub fn from<G: Graph>(&mut self, graph: &G, start: u16) -> Result<(), u16>
-        requires small { Small (edges graph.now) (size graph.now) }
-        requires stands { Stands (edges graph.now) (size graph.now) self.old }
+        requires small { Small (G.edges graph.now) (G.size graph.now) }
+        requires stands { Stands (G.edges graph.now) (G.size graph.now) self.old }
         requires nowhere { stack_of self.old ≡ bottom }
-        requires start { start < size graph.now }
-        ensures stands { Stands (edges graph.now) (size graph.now) self.new }
+        requires start { start < G.size graph.now }
+        ensures stands { Stands (G.edges graph.now) (G.size graph.now) self.new }
         ensures keeps { (x : ℕ) → In x (done_of self.old) → In x (done_of self.new) }
-        ensures only { OnlyFrom (edges graph.now) start self.old self.new }
-        ensures ended { Ended (edges graph.now) self.new result }
+        ensures only { OnlyFrom (G.edges graph.now) start self.old self.new }
+        ensures ended { Ended (G.edges graph.now) self.new result }
         ensures reached { OnOk result (In start (done_of self.new)) }
     {
         if self.is_done(start) {

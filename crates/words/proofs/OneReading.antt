@@ -1,6 +1,6 @@
 -- Every text has one outcome and no other. Assumes nothing.
 use Rattle.std.proofs.Common.{◌≡◌, ℕ, zero, suc, ◌+◌, ◌<◌, ◌≤◌, List, [], ◌∷◌, ◌++◌, length, sym, refl, ap, subst, inl, inr, arith, length-append}
-use native.Mathlib.Decide.{dec_le, ℕ_discrete}
+use Rattle.std.proofs.Math.Decide.{dec_le, ℕ_discrete}
 use Rattle.words.specs.Reading.{White, Solid, Inline, Stops, Longest, Token, Passes, blank, next_line, comment, Outcome, words, unreadable, before, Reads, ended, pass, word, fault, OneReading, EveryTextHasOneReading}
 use Rattle.words.proofs.SpelledNumber.{one_spelling, decide_spells}
 use Rattle.words.proofs.LongestFront.{one_longest, cut}

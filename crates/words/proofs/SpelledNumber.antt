@@ -1,6 +1,6 @@
 -- A token spells at most one number, and whether it spells one can be told. Assumes nothing.
 use Rattle.std.proofs.Common.{◌≡◌, ℕ, ◌-◌, ◌^◌, ◌<◌, ◌≤◌, ◌↔◌, List, [], ◌∷◌, length, get_or, drop, Some, None, Option, refl, subst, inl, inr, arith}
-use native.Mathlib.Decide.{map_dec, dec_lt, ℕ_discrete}
+use Rattle.std.proofs.Math.Decide.{map_dec, dec_lt, ℕ_discrete}
 use Rattle.words.specs.Spelling.{Digit, Writes, nothing, digit, Numeral, Spells, decimal, hexadecimal, Finds}
 
 pub one_digit : (b d e : ℕ) → Digit b d → Digit b e → d ≡ e

@@ -1,5 +1,7 @@
 //! The words of a text: numbers of 32 bits, in decimal or in hexadecimal after `0x`, with white space between them and
 //! comments from `#` to the end of the line.
+#![tactic(auto)]
+
 mod number;
 
 ghost use Rattle.std.specs.Prelude.{◌≡◌, ◌++◌, Decides, MatchResult};

@@ -1,8 +1,8 @@
 -- States that calls lead to are formed and have a certificate whose classes are met. Assumes nothing.
-use Rattle.std.proofs.Common.{◌≡◌, ℕ, ◌<◌, List, [], length, Result, refl, arith}
+use Rattle.std.proofs.Common.{ℕ, ◌<◌, List, length, Result, arith}
 use Rattle.theory.specs.Meaning.{Meaning, Lawful}
 use Rattle.theory.specs.Types.{Tree}
-use Rattle.theory.specs.States.{State, Cell, unknown, term, Formed, CellFormed, empty_state, with_cell, with_equation}
+use Rattle.theory.specs.States.{State, Cell, unknown, term, Formed, CellFormed, with_cell, with_equation}
 use Rattle.theory.specs.Assignments.{Assigns}
 use Rattle.theory.specs.Certificates.{Shape, Certificate, ClassesAdmitted}
 use Rattle.theory.specs.Theorems.{CellAdmitted}

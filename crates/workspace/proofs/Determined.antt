@@ -1,10 +1,8 @@
 -- Each call has one answer. Assumes nothing.
-use Rattle.std.proofs.Common.{◌≡◌, ℕ, ◌+◌, ◌<◌, ◌≤◌, Bool, true, false, ◌⊎◌, List, [], ◌∷◌, ◌++◌, length, drop, Ok, Err, Result, sym, refl, ap, inl, inr, arith}
-use native.Mathlib.Decide.{ℕ_discrete, dec_lt, dec_le}
+use Rattle.std.proofs.Common.{◌≡◌, ℕ, ◌+◌, ◌<◌, ◌≤◌, Bool, true, false, ◌⊎◌, List, [], ◌∷◌, ◌++◌, length, drop, Ok, Err, Result, refl, ap, inl, inr, arith}
+use Rattle.std.proofs.Math.Decide.{ℕ_discrete, dec_lt, dec_le}
 use Rattle.theory.specs.Meaning.{Meaning, Lawful, Admits}
-use Rattle.theory.specs.Types.{Tree}
 use Rattle.theory.specs.States.{State, Standing, Formed, with_equation}
-use Rattle.theory.specs.Assignments.{Assigns}
 use Rattle.theory.specs.Verdicts.{Verdict, certified, clashes, barred}
 use Rattle.theory.specs.Listings.{Listing}
 use Rattle.theory.proofs.Impossible.{impossible}
@@ -17,9 +15,9 @@ use Rattle.theory.proofs.ListingIsUnique.{listing_is_unique}
 use Rattle.theory.proofs.Soundness.{joined_terms_agree}
 use Rattle.theory.proofs.JoinedLists.{joined_lists_reflexive}
 use Rattle.workspace.specs.declared.fault.Fault.{Fault}
-use Rattle.workspace.specs.declared.fault.Fault.TheVariants.{Full, NoCode, NoSuchCode, WrongCount, NoSuchCell, NoRoom, NoTypes, NoClasses}
+use Rattle.workspace.specs.declared.fault.Fault.TheVariants.{Full, NoSuchCell}
 use Rattle.workspace.specs.Calls.{most_cells, most_places, places_in, Stands, FirstMissing, HasCode, Room, UnknownCall, unknown_full, unknown_no_code, unknown_made, TermCall, term_no_code, term_wrong_count, term_no_cell, term_full, term_made, JoinCall, join_no_cell, join_no_types, join_no_classes, join_accepted, ShowCall, show_no_cell, show_no_room, show_written}
-use Rattle.workspace.specs.Promise.{Reached, Same, Determined, CallsHaveOneAnswer}
+use Rattle.workspace.specs.Promise.{Same, Determined, CallsHaveOneAnswer}
 use Rattle.workspace.proofs.Missing.{standing_none, standing_next, standing_first, standing_rest, standing_or_missing, missing_stands_not, missing_once}
 use Rattle.workspace.proofs.Certified.{Certified, assigned, reached_certified}
 

@@ -1,6 +1,6 @@
 -- The first cell of a list that does not stand. Assumes nothing.
-use Rattle.std.proofs.Common.{◌≡◌, ℕ, zero, suc, ◌<◌, ◌≤◌, ◌⊎◌, List, [], ◌∷◌, ◌++◌, length, Some, sym, refl, ap, ◌∙◌, inl, inr, arith}
-use native.Mathlib.Decide.{dec_lt}
+use Rattle.std.proofs.Common.{◌≡◌, ℕ, zero, suc, ◌⊎◌, List, [], ◌∷◌, ◌++◌, length, Some, sym, refl, ap, ◌∙◌, inl, inr, arith}
+use Rattle.std.proofs.Math.Decide.{dec_lt}
 use Rattle.std.specs.List.{slice_get}
 use Rattle.theory.specs.States.{State, Standing}
 use Rattle.theory.proofs.Lookups.{nth_later}

@@ -1,7 +1,6 @@
 -- States that calls lead to keep the promise. Assumes nothing.
-use Rattle.std.proofs.Common.{◌≡◌, ℕ, ◌<◌, ◌≤◌, List, [], ◌∷◌, length, Ok, Err, Result, sym, refl, ap, arith}
-use Rattle.theory.specs.Meaning.{Meaning, Lawful, Agree}
-use Rattle.theory.specs.Types.{Tree, Trees}
+use Rattle.std.proofs.Common.{ℕ, List, [], ◌∷◌, length, Result, ap, arith}
+use Rattle.theory.specs.Meaning.{Meaning, Agree}
 use Rattle.theory.specs.States.{State, Standing, with_equation}
 use Rattle.theory.specs.SameEquations.{SameEquations}
 use Rattle.theory.proofs.HeldPairwise.{consistent_pairwise}
@@ -10,9 +9,9 @@ use Rattle.theory.proofs.FillingsAreRows.{fillings_are_rows}
 use Rattle.theory.proofs.SameEquationsListings.{same_listing}
 use Rattle.workspace.specs.declared.fault.Fault.{Fault}
 use Rattle.workspace.specs.Calls.{Stands, FirstMissing, NoneClassed, JoinCall, join_no_cell, join_no_types, join_no_classes, join_accepted, ShowCall, show_no_cell, show_no_room, show_written}
-use Rattle.workspace.specs.Promise.{Reached, Same, Determined, RefusedForTypes, with_seven, with_eight, Promise, ReachedStatesKeepThePromise}
+use Rattle.workspace.specs.Promise.{RefusedForTypes, with_seven, with_eight, ReachedStatesKeepThePromise}
 use Rattle.workspace.proofs.Missing.{standing_none, standing_next, missing_stands_not}
-use Rattle.workspace.proofs.Certified.{Certified, assigned, reached_certified}
+use Rattle.workspace.proofs.Certified.{assigned, reached_certified}
 use Rattle.workspace.proofs.Determined.{determined}
 
 module _ (m : Meaning) (s : State) where

@@ -1,8 +1,8 @@
 -- What holds of every state that calls lead to from an opening. Assumes nothing.
-use Rattle.std.specs.Prelude.{◌≡◌, ℕ, ◌<◌, List, [], ◌∷◌, Ok, Err, Result}
+use Rattle.std.specs.Prelude.{◌≡◌, ℕ, ◌<◌, List, Err, Result}
 use Rattle.theory.specs.Meaning.{Meaning, Lawful, Agree}
 use Rattle.theory.specs.Types.{Tree, Trees, types}
-use Rattle.theory.specs.States.{State, Standing, Formed, empty_state, with_equation}
+use Rattle.theory.specs.States.{State, Standing, empty_state, with_equation}
 use Rattle.theory.specs.Assignments.{Assigns}
 use Rattle.theory.specs.Listings.{Listing}
 use Rattle.theory.specs.Fillings.{Fills}

@@ -1,5 +1,7 @@
 //! A workspace: cells and accepted equations over an alphabet. Its refusals, what each of its calls answers, and what holds of every state
 //! that calls lead to.
+#![tactic(auto)]
+
 pub mod fault;
 pub mod theorems;
 

@@ -6,8 +6,8 @@ use Rattle.words.proofs.cut.Goals as goal
 
 pub returns-then-not-continues : goal.returns-then-not-continues
 returns-then-not-continues c = record {
-  whole = c.split-at.ensures.by_index.0;
-  longest = rw (c.split-at.ensures.front, c.split-at.ensures.back, drop_more c.args.text.now c.loop-i.i 0 c.loop-i-test.true) (record { all = c.loop-i.invariant; stops = not_from_Decides _ c.continues.ensures c.if-not-continues.true });
+  whole = c.split_at.ensures.by_index.0;
+  longest = rw (c.split_at.ensures.front, c.split_at.ensures.back, drop_more c.args.text.now c.loop-i.i 0 c.loop-i-test.true) (record { all = c.loop-i.invariant; stops = not_from_Decides _ c.continues.ensures c.if-not-continues.true });
 }
 
 pub loop-i-preserved : goal.loop-i-preserved

@@ -1,10 +1,9 @@
-use Rattle.std.proofs.Common.{get_or, refl, rules}
-use Rattle.plan.specs.Steps.{Sees}
+use Rattle.std.proofs.Common.{get_or, refl}
 use Rattle.plan.proofs.Front.{other_front, unknown_front}
 use Rattle.plan.proofs.reader.first_item.Goals as goal
 
-pub returns-in-default : goal.returns-in-default
-returns-in-default g c = other_front _ c.args.words.now (get_or c.args.words.now 0 0) (c.requires, refl) c.in-default.ensures
+pub returns-in_default : goal.returns-in_default
+returns-in_default g c = other_front _ c.args.words.now (get_or c.args.words.now 0 0) (c.requires, refl) c.in_default.ensures
 
 pub returns-in-Unknown : goal.returns-in-Unknown
 returns-in-Unknown g c =
@@ -12,4 +11,4 @@ returns-in-Unknown g c =
     unknown_front _ c.args.words.now (get_or c.args.words.now 0 0) c.in-Unknown.set (c.requires, refl) s.0 s.1
 
 pub returns-in-Link : goal.returns-in-Link
-returns-in-Link g c = c.link-after.ensures (g.A.Alphabet.meaning c.args.alphabet.now)
+returns-in-Link g c = c.link_after.ensures (g.A.Alphabet.meaning c.args.alphabet.now)

@@ -1,4 +1,4 @@
-use Rattle.std.proofs.Common.{arith, rules}
+use Rattle.std.proofs.Common.{arith}
 use Rattle.plan.proofs.Front.{short_link_front, link_front}
 use Rattle.plan.proofs.reader.link_after.Goals as goal
 

@@ -10,8 +10,8 @@ several_cells [] several = absurd (omega arith)
 several_cells (cell ∷ []) several = absurd (omega arith)
 several_cells (cell ∷ next ∷ cells) several = refl
 
-pub returns-in-ok-list : goal.returns-in-ok-list
-returns-in-ok-list c =
-    let list = c.in-ok-list.ensures in
+pub returns-in_ok-list-in-len2-up : goal.returns-in_ok-list-in-len2-up
+returns-in_ok-list-in-len2-up c =
+    let list = c.in_ok-list-in-len2-up.ensures in
     let several = several_cells c.args.cells.now (search rules) in
     IfOk-weaker c.format-in-len2-up.result _ _ (λ s e. cc) c.format-in-len2-up.ensures.ok

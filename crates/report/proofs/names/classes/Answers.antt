@@ -4,16 +4,16 @@ use Rattle.std.proofs.lemmas.List.{map_push}
 use Rattle.report.specs.Names.{class_text}
 use Rattle.report.proofs.Classes.{class_added, class_passed}
 use Rattle.report.proofs.names.classes.Goals as goal
-use Rattle.report.proofs.names.classes.Goals.{then-contains+in-ok-class-name+in-ok-push, else-contains}
+use Rattle.report.proofs.names.classes.Goals.{then-contains+in_ok-class_name+in_ok-push, else-contains}
 
 pub loop-class-preserved : goal.loop-class-preserved
 loop-class-preserved c =
     elim c.if-contains.branch [
-      | then-contains+in-ok-class-name+in-ok-push w ↦
-          let added = map_push string_bytes (vec_items c.loop-class.texts) w.in-ok-class-name.field-0 in
+      | then-contains+in_ok-class_name+in_ok-push w ↦
+          let added = map_push string_bytes (vec_items c.loop-class.texts) w.in_ok-class_name.field-0 in
           let more = class_added (class_text c.args.names) c.args.set c.loop-class.class (sym c.contains.ensures ∙ w.if-contains.true) in
-          let text = w.in-ok-class-name.ensures in
-          let items = w.in-ok-push.ensures.items in
+          let text = w.in_ok-class_name.ensures in
+          let items = w.in_ok-push.ensures.items in
           let same = w.texts-is in
           cc
       | else-contains w ↦

@@ -4,5 +4,5 @@ use Rattle.report.proofs.refusals.refusal_sentence.Goals as goal
 
 pub returns : goal.returns
 returns c =
-    let reason = c.in-ok-reason.ensures in
+    let reason = c.in_ok-reason.ensures in
     IfOk-weaker c.format.result _ _ (λ s e. cc) c.format.ensures.ok

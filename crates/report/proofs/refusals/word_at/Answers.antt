@@ -11,4 +11,4 @@ item_or_zero words i None item = sym (get_or_past words i 0 item.3)
 item_or_zero words i (Some word) item = get_or_read words i word.now item.3.0 item.1 0
 
 pub returns : goal.returns
-returns c = c.unwrap-or.ensures ∙ ap (λ found. unwrap_or found 0) c.copied.ensures ∙ item_or_zero c.args.words.now c.args.position c.get.result c.get.ensures.lookup
+returns c = c.unwrap_or.ensures ∙ ap (λ found. unwrap_or found 0) c.copied.ensures ∙ item_or_zero c.args.words.now c.args.position c.get.result c.get.ensures.lookup

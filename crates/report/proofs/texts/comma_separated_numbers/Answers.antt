@@ -7,14 +7,14 @@ use Rattle.report.proofs.texts.comma_separated_numbers.Goals as goal
 
 pub loop-number-preserved : goal.loop-number-preserved
 loop-number-preserved c =
-    let added = map_push string_bytes (vec_items c.loop-number.texts) c.in-ok-to-string.field-0 in
+    let added = map_push string_bytes (vec_items c.loop-number.texts) c.in_ok-to_string.field-0 in
     let more = map_more decimal c.args.numbers.now c.loop-number.number-index 0 c.loop-number-test.true in
-    let text = c.in-ok-to-string.ensures.ok in
-    let items = c.in-ok-push.ensures.items in
+    let text = c.in_ok-to_string.ensures.ok in
+    let items = c.in_ok-push.ensures.items in
     cc
 
 pub returns : goal.returns
 returns c =
     let all = take_all c.loop-number.number-index c.args.numbers.now c.loop-number-test.false in
-    let same : map string_bytes c.as-slice.result.now ≡ map decimal c.args.numbers.now = cc in
-    IfOk-weaker c.comma-separated.result _ _ (λ s e. e ∙ ap comma_separated_text same) c.comma-separated.ensures
+    let same : map string_bytes c.as_slice.result.now ≡ map decimal c.args.numbers.now = cc in
+    IfOk-weaker c.comma_separated.result _ _ (λ s e. e ∙ ap comma_separated_text same) c.comma_separated.ensures

@@ -6,7 +6,7 @@ use Rattle.report.proofs.texts.push_hexadecimal.Goals as goal
 
 pub loop-place-preserved : goal.loop-place-preserved
 loop-place-preserved c =
-    let text = pushed _ c.loop-place.invariant c.in-ok-push.was c.push.ensures.bytes in
-    let byte = c.push.ensures.ascii c.hexadecimal-digit.ensures.bound in
+    let text = pushed _ c.loop-place.invariant c.in_ok-push.was c.push.ensures.bytes in
+    let byte = c.push.ensures.ascii c.hexadecimal_digit.ensures.bound in
     let more = hexadecimal_more (string_bytes c.args.text.now) c.args.digits c.args.number c.loop-place.place (omega arith) (omega arith) in
     cc

@@ -8,7 +8,7 @@ pub loop-byte-preserved : goal.loop-byte-preserved
 loop-byte-preserved c =
     let added = flat_map_more byte_text [] (take c.loop-byte.byte-index c.args.bytes.now) (get_or c.args.bytes.now c.loop-byte.byte-index 0) in
     let more = take_more c.args.bytes.now c.loop-byte.byte-index 0 c.loop-byte-test.true in
-    let text = c.in-ok-push-byte.ensures in
+    let text = c.in_ok-push_byte.ensures in
     cc
 
 pub returns : goal.returns

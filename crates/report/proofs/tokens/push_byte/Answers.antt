@@ -6,6 +6,6 @@ use Rattle.report.proofs.tokens.push_byte.Goals as goal
 
 pub returns : goal.returns
 returns c =
-    let mark = c.in-ok-push-str.ensures.bytes in
-    let escaped = escaped_byte (string_bytes c.args.text.now) c.args.byte (sym c.is-plain.ensures ∙ c.if-is-plain.false) in
-    IfOk-weaker c.push-hexadecimal.result _ _ (λ _ e. cc) c.push-hexadecimal.ensures
+    let mark = c.in_ok-push_str.ensures.bytes in
+    let escaped = escaped_byte (string_bytes c.args.text.now) c.args.byte (sym c.is_plain.ensures ∙ c.if-is_plain.false) in
+    IfOk-weaker c.push_hexadecimal.result _ _ (λ _ e. cc) c.push_hexadecimal.ensures

@@ -4,5 +4,5 @@ use Rattle.report.proofs.tokens.unreadable_sentence.Goals as goal
 
 pub returns : goal.returns
 returns c =
-    let shown = c.in-ok-shown.ensures in
+    let shown = c.in_ok-shown.ensures in
     IfOk-weaker c.format.result _ _ (λ s e. cc) c.format.ensures.ok

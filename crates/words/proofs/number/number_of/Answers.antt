@@ -5,7 +5,7 @@ use Rattle.words.proofs.SpelledNumber.{behind_0x, elsewhere, finds_like}
 use Rattle.words.proofs.number.number_of.Goals as goal
 
 pub returns-in-48 : goal.returns-in-48
-returns-in-48 c = finds_like _ _ _ (behind_0x _ (search rules)) (rw take_rest at c.numeral-value.ensures)
+returns-in-48 c = finds_like _ _ _ (behind_0x _ (search rules)) (rw take_rest at c.numeral_value.ensures)
 
-pub returns-in-default : goal.returns-in-default
-returns-in-default c = finds_like _ _ _ (elsewhere _ (λ x. search rules)) c.numeral-value-in-default.ensures
+pub returns-in_default : goal.returns-in_default
+returns-in_default c = finds_like _ _ _ (elsewhere _ (λ x. search rules)) c.numeral_value-in_default.ensures

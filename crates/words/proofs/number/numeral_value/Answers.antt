@@ -9,27 +9,27 @@ use Rattle.words.proofs.number.numeral_value.Goals.{In-Some}
 pub loop-byte-init : goal.loop-byte-init
 loop-byte-init c = (nothing, omega arith)
 
-pub returns-in-default : goal.returns-in-default
-returns-in-default c n w =
+pub returns-in_default : goal.returns-in_default
+returns-in_default c n w =
     let (d, is) = digit_at c.loop-byte.byte-index c.loop-byte-test.true w.writes in
-    c.in-default.ensures d is
+    c.in_default.ensures d is
 
 more : (c : In-Some) → Writes c.args.base (take (c.loop-byte.byte-index + 1) c.args.digits.now) (c.loop-byte.value * c.args.base + c.in-Some.digit)
 more c = let (is, below) = c.in-Some.ensures.0 in so_far_more _ _ c.loop-byte-test.true c.loop-byte.invariant.0 is below
 
-pub returns-in-default-checked-mul : goal.returns-in-default-checked-mul
-returns-in-default-checked-mul c n w =
-    omega (arith, so_far_less _ _ c.requires (more (goal.at.returns-in-default-checked-mul c).In-Some) w.writes, c.in-default-checked-mul.ensures)
+pub returns-in_default-checked_mul : goal.returns-in_default-checked_mul
+returns-in_default-checked_mul c n w =
+    omega (arith, so_far_less _ _ c.requires (more (goal.at.returns-in_default-checked_mul c).In-Some) w.writes, c.in_default-checked_mul.ensures)
 
-pub returns-in-default-checked-add : goal.returns-in-default-checked-add
-returns-in-default-checked-add c n w =
-    omega (arith, so_far_less _ _ c.requires (more (goal.at.returns-in-default-checked-add c).In-Some) w.writes, c.in-Some-checked-mul.ensures, c.in-default-checked-add.ensures)
+pub returns-in_default-checked_add : goal.returns-in_default-checked_add
+returns-in_default-checked_add c n w =
+    omega (arith, so_far_less _ _ c.requires (more (goal.at.returns-in_default-checked_add c).In-Some) w.writes, c.in-Some-checked_mul.ensures, c.in_default-checked_add.ensures)
 
 pub loop-byte-preserved : goal.loop-byte-preserved
 loop-byte-preserved c =
-    let product = c.in-Some-checked-mul.ensures in
-    let sum = c.in-Some-checked-add.ensures in
-    let next : c.in-Some-checked-add.sum ≡ c.loop-byte.value * c.args.base + c.in-Some.digit = omega arith in
+    let product = c.in-Some-checked_mul.ensures in
+    let sum = c.in-Some-checked_add.ensures in
+    let next : c.in-Some-checked_add.sum ≡ c.loop-byte.value * c.args.base + c.in-Some.digit = omega arith in
     (rw next (more (goal.at.loop-byte-preserved c).In-Some), omega arith)
 
 pub returns : goal.returns

@@ -11,8 +11,8 @@ returns-in-2 c = record {
 }
 
 -- the classes of a code are none, belt or floor
-pub returns-in-default : goal.returns-in-default
-returns-in-default c = record {
+pub returns-in_default : goal.returns-in_default
+returns-in_default c = record {
   chosen = record { not_empty = search rules; no_code = λ d known admitted. let h : c.args.set ≤ classes d = included_below c.args.set (classes d) admitted in search rules };
   lowest = tt;
 }

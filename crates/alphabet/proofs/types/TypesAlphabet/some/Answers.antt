@@ -4,8 +4,8 @@ use Rattle.alphabet.specs.Types.{classes}
 use Rattle.alphabet.proofs.types.TypesAlphabet.some.Goals as goal
 
 -- the classes of a code are none or addable
-pub returns-in-default : goal.returns-in-default
-returns-in-default c = record {
+pub returns-in_default : goal.returns-in_default
+returns-in_default c = record {
   chosen = record { not_empty = search rules; no_code = λ d known admitted. let h : c.args.set ≤ classes d = included_below c.args.set (classes d) admitted in search rules };
   lowest = tt;
 }

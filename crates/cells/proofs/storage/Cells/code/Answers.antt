@@ -1,5 +1,4 @@
 -- The head of a term is its code.
-use Rattle.std.proofs.Common.{rules}
 use Rattle.theory.proofs.Lookups.{nth_below}
 use Rattle.cells.proofs.Holdings.{standing_below_2048, head_is_code}
 use Rattle.cells.proofs.storage.Cells.code.Goals as goal

@@ -11,8 +11,8 @@ bounds-self-cell c = standing_below_2048 c.args.self.now c.args.cell c.requires
 pub bounds-self-cell-then-head-lt16777216 : goal.bounds-self-cell-then-head-lt16777216
 bounds-self-cell-then-head-lt16777216 c = standing_below_2048 c.args.self.now c.args.cell c.requires
 
-pub overflow-cast-result-else-head-lt16777216 : goal.overflow-cast-result-else-head-lt16777216
-overflow-cast-result-else-head-lt16777216 c = let fits = set_fits c.args.self.now c.args.cell c.requires in search rules
+pub overflow_cast-result-else-head-lt16777216 : goal.overflow_cast-result-else-head-lt16777216
+overflow_cast-result-else-head-lt16777216 c = let fits = set_fits c.args.self.now c.args.cell c.requires in search rules
 
 pub returns-then-head-lt16777216 : goal.returns-then-head-lt16777216
 unfolding plain_of

@@ -9,8 +9,8 @@ bounds-self-cell c = standing_below_2048 c.args.self.now c.args.cell c.requires
 pub bounds-self-cell-2 : goal.bounds-self-cell-2
 bounds-self-cell-2 c = standing_below_2048 c.args.self.now c.args.cell c.requires
 
-pub slice-bounds-result-end : goal.slice-bounds-result-end
-slice-bounds-result-end c = let within = c.args.self.now.within c.args.cell (standing_counted c.args.self.now c.args.cell c.requires) in search rules
+pub slice_bounds-result-end : goal.slice_bounds-result-end
+slice_bounds-result-end c = let within = c.args.self.now.within c.args.cell (standing_counted c.args.self.now c.args.cell c.requires) in search rules
 
 pub returns : goal.returns
 returns c =

@@ -4,11 +4,11 @@ use Rattle.classes.proofs.LabelLaws.{forest}
 use Rattle.classes.proofs.Changes.{cell_added}
 use Rattle.classes.proofs.forest.Classes.add.Goals as goal
 
-pub invariant-of-self : goal.invariant-of-self
-invariant-of-self c =
+pub invariant_of-self : goal.invariant_of-self
+invariant_of-self c =
     let t = c.args.self.now in
     let f = forest_added t.parents t.lower t.count t.links (search rules) c.requires (forest t) in
-    (f.few, (f.inside, (f.counted, (f.unlinked, (f.rising, (f.trailed, tt))))))
+    record { few = f.few; inside = f.inside; counted = f.counted; unlinked = f.unlinked; rising = f.rising; trailed = f.trailed }
 
 pub returns : goal.returns
 returns c =

@@ -4,8 +4,8 @@ use Rattle.classes.proofs.LabelLaws.{links_within_count, upper_within}
 use Rattle.classes.proofs.Changes.{upper_reshaped}
 use Rattle.classes.proofs.forest.Classes.reshape.Goals as goal
 
-pub offset-bounds-self-k : goal.offset-bounds-self-k
-offset-bounds-self-k c = let l = links_within_count c.args.self.now in search rules
+pub offset_bounds-self-k : goal.offset_bounds-self-k
+offset_bounds-self-k c = let l = links_within_count c.args.self.now in search rules
 
 pub bounds-self-k : goal.bounds-self-k
 bounds-self-k c = let l = links_within_count c.args.self.now in search rules

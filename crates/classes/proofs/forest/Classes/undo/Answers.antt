@@ -4,21 +4,21 @@ use Rattle.classes.proofs.LabelLaws.{forest, links_within_count}
 use Rattle.classes.proofs.Changes.{last_undone}
 use Rattle.classes.proofs.forest.Classes.undo.Goals as goal
 
-pub offset-bounds-self-k : goal.offset-bounds-self-k
-offset-bounds-self-k c = let l = links_within_count c.args.self.now in search rules
+pub offset_bounds-self-k : goal.offset_bounds-self-k
+offset_bounds-self-k c = let l = links_within_count c.args.self.now in search rules
 
 pub bounds-self-k : goal.bounds-self-k
 bounds-self-k c = let l = links_within_count c.args.self.now in search rules
 
-pub invariant-of-self : goal.invariant-of-self
-invariant-of-self c =
+pub invariant_of-self : goal.invariant_of-self
+invariant_of-self c =
     let t = c.args.self.now in
     let k : ℕ = t.links - 1 in
     let last : t.links ≡ k + 1 = let p = c.requires in omega arith in
     let P : ℕ → Type 0 = Forest t.parents t.lower t.count in
     let h : get_or t.lower k 0 < t.count = (t.trailed k (omega arith)).0 in
     let f = forest_undone t.parents t.lower t.count k (search rules) (subst P last (forest t)) in
-    (f.few, (f.inside, (f.counted, (f.unlinked, (f.rising, (f.trailed, tt))))))
+    record { few = f.few; inside = f.inside; counted = f.counted; unlinked = f.unlinked; rising = f.rising; trailed = f.trailed }
 
 pub returns : goal.returns
 returns c =

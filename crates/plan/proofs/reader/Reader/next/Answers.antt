@@ -18,7 +18,7 @@ returns-in-Ok g c =
     record {
       same = refl;
       hands_out = hands_out m (g.met.A.Alphabet.small_codes c.args.alphabet.now) words position _ _ (rw (take_rest words position) at c.in-Ok.ensures)
-          (ap (λ (n : ℕ). position + n) c.span-of.ensures) tt;
+          (ap (λ (n : ℕ). position + n) c.span_of.ensures) tt;
     }
 
 pub returns-in-Err : goal.returns-in-Err

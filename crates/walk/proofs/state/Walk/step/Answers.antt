@@ -17,9 +17,9 @@ pop-requires g c =
     let low = top_below c.requires.stands (frames_top w.stack w.at w.depth c.requires.frame) in
     record { frame = c.requires.frame; node = omega arith; room = omega arith }
 
-pub returns-in-default : goal.returns-in-default
-returns-in-default g c =
-    let step = pop_steps c.requires.small c.args.self.now c.pop.new.self c.requires.stands c.top-node.ensures (sym c.in-default.ensures) c.pop.ensures in
+pub returns-in_default : goal.returns-in_default
+returns-in_default g c =
+    let step = pop_steps c.requires.small c.args.self.now c.pop.new.self c.requires.stands c.top-node.ensures (sym c.in_default.ensures) c.pop.ensures in
     record { onward = step.0; moved = step.1 }
 
 pub bounds-self-next : goal.bounds-self-next
@@ -57,8 +57,8 @@ returns-in-1 g c =
       moved = edge_comes_round c.args.self.now c.requires.stands c.top-node.ensures (sym c.in-Some.ensures) c.in-1.is;
     }
 
-pub returns-in-default-colors : goal.returns-in-default-colors
-returns-in-default-colors g c =
+pub returns-in_default-colors : goal.returns-in_default-colors
+returns-in_default-colors g c =
     let y_done = colored_else_done (c.requires.stands.painted c.in-Some.next) (λ e. omega arith) (λ e. omega arith) in
     let step = advance_steps c.requires.small c.args.self.now c.advance.new.self c.requires.stands c.top-node.ensures (sym c.in-Some.ensures) y_done c.advance.ensures in
     record { onward = step.0; moved = step.1 }
