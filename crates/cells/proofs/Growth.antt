@@ -9,11 +9,11 @@ use Rattle.theory.specs.States.{Cell, unknown, term}
 use Rattle.cells.specs.CellLists.{places_of, places_in}
 use Rattle.cells.specs.Layout.{cell_from, cell_in, cells_in, Within, Lower, Short, Headed, Bare}
 
-pub get_d_set_below : (xs : List ℕ) (n v i : ℕ) → i < n → get_or (set xs n v) i 0 ≡ get_or xs i 0
-get_d_set_below xs n v i h = let ne : i ≢ n = omega arith in get_or-set_other xs n i v 0 ne
+pub get_or_set_below : (xs : List ℕ) (n v i : ℕ) → i < n → get_or (set xs n v) i 0 ≡ get_or xs i 0
+get_or_set_below xs n v i h = let ne : i ≢ n = omega arith in get_or-set_other xs n i v 0 ne
 
-pub get_d_set_at : (xs : List ℕ) (n v w i : ℕ) → i ≡ n → n < length xs → v ≡ w → get_or (set xs n v) i 0 ≡ w
-get_d_set_at xs n v w i e h is = ap (λ j. get_or (set xs n v) j 0) e ∙ get_or-set_same xs n v 0 h ∙ is
+pub get_or_set_at : (xs : List ℕ) (n v w i : ℕ) → i ≡ n → n < length xs → v ≡ w → get_or (set xs n v) i 0 ≡ w
+get_or_set_at xs n v w i e h is = ap (λ j. get_or (set xs n v) j 0) e ∙ get_or-set_same xs n v 0 h ∙ is
 
 -- the first f elements are as they were
 abbrev pub Kept : (before after : List ℕ) → ℕ → Type 0
@@ -37,29 +37,29 @@ part_item qs xs s m e k l = sym (get_or-drop s qs k 0) ∙ sym (get_or-take m (d
 
 pub within_more : (ss cs : List ℕ) (n f g s m : ℕ) → n < length ss → n < length cs → f ≤ g → s + m ≤ g → Within ss cs n f → Within (set ss n s) (set cs n m) (n + 1) g
 within_more ss cs n f g s m ls lc fg new old = below_more _ _
-    (λ i h. rw (get_d_set_below ss n s i h, get_d_set_below cs n m i h) (omega (arith, old i h)))
+    (λ i h. rw (get_or_set_below ss n s i h, get_or_set_below cs n m i h) (omega (arith, old i h)))
     (rw (get_or-set_same ss n s 0 ls, get_or-set_same cs n m 0 lc) new)
 
 pub lower_more : (ss cs ps qs : List ℕ) (n f s m : ℕ) → n < length ss → n < length cs → Within ss cs n f → Kept ps qs f
     → ((k : ℕ) → k < m → get_or qs (s + k) 0 < n) → Lower ss cs ps n → Lower (set ss n s) (set cs n m) qs (n + 1)
 lower_more ss cs ps qs n f s m ls lc within kept new old = below_more _ _
-    (λ i h. rw (get_d_set_below ss n s i h, get_d_set_below cs n m i h)
+    (λ i h. rw (get_or_set_below ss n s i h, get_or_set_below cs n m i h)
     (λ k l. let q : get_or qs (get_or ss i 0 + k) 0 ≡ get_or ps (get_or ss i 0 + k) 0 = item_kept ps qs f kept _ (omega (arith, within i h)) in omega (arith, old i h k l)))
     (rw (get_or-set_same ss n s 0 ls, get_or-set_same cs n m 0 lc) new)
 
 pub short_more : (cs : List ℕ) (n m : ℕ) → n < length cs → m ≤ 9 → Short cs n → Short (set cs n m) (n + 1)
 short_more cs n m lc new old = below_more _ _
-    (λ i h. rw (get_d_set_below cs n m i h) (old i h))
+    (λ i h. rw (get_or_set_below cs n m i h) (old i h))
     (rw (get_or-set_same cs n m 0 lc) new)
 
 pub headed_more : (hs : List ℕ) (n x : ℕ) → n < length hs → x < 16777472 → Headed hs n → Headed (set hs n x) (n + 1)
 headed_more hs n x lh new old = below_more _ _
-    (λ i h. rw (get_d_set_below hs n x i h) (old i h))
+    (λ i h. rw (get_or_set_below hs n x i h) (old i h))
     (rw (get_or-set_same hs n x 0 lh) new)
 
 pub bare_more : (hs cs : List ℕ) (n x m : ℕ) → n < length hs → n < length cs → (16777216 ≤ x → m ≡ 0) → Bare hs cs n → Bare (set hs n x) (set cs n m) (n + 1)
 bare_more hs cs n x m lh lc new old = below_more _ _
-    (λ i h. rw (get_d_set_below hs n x i h, get_d_set_below cs n m i h) (old i h))
+    (λ i h. rw (get_or_set_below hs n x i h, get_or_set_below cs n m i h) (old i h))
     (rw (get_or-set_same hs n x 0 lh, get_or-set_same cs n m 0 lc) new)
 
 map_same : {X : Type 0} (f g : ℕ → X) (a n : ℕ) → ((k : ℕ) → k < a + n → f k ≡ g k) → map f (range_with_len a n) ≡ map g (range_with_len a n)
@@ -77,7 +77,7 @@ cells_more hs ss cs ps qs n f x s m c lh ls lc within kept new =
     let all : ℕ → Cell = cell_in (set hs n x) (set ss n s) (set cs n m) qs in
     let same : map all (range_with_len 0 n) ≡ map old (range_with_len 0 n) = map_same all old 0 n
     (λ k l. let h : k < n = omega arith in
-    rw (get_d_set_below hs n x k h, get_d_set_below ss n s k h, get_d_set_below cs n m k h, part_kept ps qs f kept _ _ (within k h))) in
+    rw (get_or_set_below hs n x k h, get_or_set_below ss n s k h, get_or_set_below cs n m k h, part_kept ps qs f kept _ _ (within k h))) in
     let here : all n ≡ c = rw (get_or-set_same hs n x 0 lh, get_or-set_same ss n s 0 ls, get_or-set_same cs n m 0 lc) new in
     let one : map all (range_with_len 0 (n + 1)) ≡ map all (range_with_len 0 n) ++ (all n ∷ []) = map-range_with_len_more all 0 n n (omega arith) in
     one ∙ ap (λ x. x ++ (all n ∷ [])) same ∙ ap (λ x. map old (range_with_len 0 n) ++ (x ∷ [])) here

@@ -11,8 +11,8 @@ use Rattle.cells.specs.CellLists.{places_of}
 use Rattle.cells.specs.Layout.{cell_from, cell_in, cells_in, Lower, Short, Headed}
 
 -- a number stands that is below the length
-pub nth_is_get_d : (xs : List ℕ) (k x : ℕ) → slice_get xs k ≡ Some x → get_or xs k 0 ≡ x
-nth_is_get_d xs k x e = let at = slice_get-get_or xs k 0 (nth_below xs k e) in cc
+pub nth_is_get_or : (xs : List ℕ) (k x : ℕ) → slice_get xs k ≡ Some x → get_or xs k 0 ≡ x
+nth_is_get_or xs k x e = let at = slice_get-get_or xs k 0 (nth_below xs k e) in cc
 
 pub nth_cells : (hs ss cs ps : List ℕ) (n i : ℕ) → i < n → slice_get (cells_in hs ss cs ps n) i ≡ Some (cell_in hs ss cs ps i)
 nth_cells hs ss cs ps n i h =
@@ -45,7 +45,7 @@ sound_in hs ss cs ps n i h lower short headed =
       omega (arith, short i h),
       λ k p e.
           let lt : k < length part = nth_below part k e in
-          let is : get_or part k 0 ≡ p = nth_is_get_d part k p e in
+          let is : get_or part k 0 ≡ p = nth_is_get_or part k p e in
           let lk : k < get_or cs i 0 = omega arith in
           let at : get_or part k 0 ≡ get_or ps (get_or ss i 0 + k) 0 = get_or-take (get_or cs i 0) (drop (get_or ss i 0) ps) k 0 lk ∙ get_or-drop (get_or ss i 0) ps k 0 in
           omega (arith, lower i h k lk),

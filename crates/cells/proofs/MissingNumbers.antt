@@ -7,12 +7,12 @@ use Rattle.std.proofs.lemmas.Bool.{cases_order}
 use Rattle.theory.specs.States.{Cell}
 use Rattle.theory.proofs.Lookups.{nth_below}
 use Rattle.cells.specs.CellLists.{AllStand, Missing, FirstMissing}
-use Rattle.cells.proofs.Layouts.{nth_is_get_d}
+use Rattle.cells.proofs.Layouts.{nth_is_get_or}
 
 pub all_stand_below : (cells : List Cell) (xs : List ℕ) (n : ℕ) → length cells ≡ n → ((k : ℕ) → k < length xs → get_or xs k 0 < n) → AllStand cells xs
 all_stand_below cells xs n len below k c e =
     let l = nth_below xs k e in
-    let is = nth_is_get_d xs k c e in
+    let is = nth_is_get_or xs k c e in
     omega (arith, below k l)
 
 pub below_all_stand : (cells : List Cell) (xs : List ℕ) (n : ℕ) → length cells ≡ n → AllStand cells xs → (k : ℕ) → k < length xs → get_or xs k 0 < n

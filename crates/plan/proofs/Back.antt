@@ -4,7 +4,7 @@ use Rattle.std.proofs.lemmas.List.{take_at, take_all, length-take-le, flat_map_m
 use Rattle.theory.specs.Meaning.{Meaning}
 use Rattle.plan.specs.Items.{Item, written, all_written}
 use Rattle.plan.specs.Reading.{Reading, item, refused, ended, Begins, at_end, at_item, Stands, Read, none_read, read_on, GivesBack}
-use Rattle.plan.specs.Answers.{Goes_on}
+use Rattle.plan.specs.Answers.{GoesOn}
 
 -- the words of a list up to a position, and then some more of them
 take_on : (words part rest : List ℕ) (position : ℕ) → position ≤ length words → drop position words ≡ part ++ rest →
@@ -48,7 +48,7 @@ whole_at_end : (words : List ℕ) (items : List Item) (position : ℕ) → Retur
 whole_at_end words items position r e = r.back ∙ take_all position words (omega (arith, ap length e, length-drop position words))
 
 pub goes_on : (m : Meaning) (words : List ℕ) (position : ℕ) (reading : Reading) (next : ℕ) → Stands m words position reading next →
-    (items : List Item) → Read m words items position → Goes_on m words items reading next
+    (items : List Item) → Read m words items position → GoesOn m words items reading next
 goes_on m words position (item i) next s items r = let on : Read m words (items ++ i ∷ []) next = read_on r s in record { read = on; gives_back = gives_back m words (items ++ i ∷ []) next on; whole = tt }
 goes_on m words position (refused f) next s items r =
     let n : next ≡ position = s.onward ∙ (omega arith) in record { read = rw n r; gives_back = rw n (gives_back m words items position r); whole = tt }

@@ -30,7 +30,7 @@ Whole words items (refused r) = Unit {0}
 Whole words items ended = all_written items ≡ words
 
 -- With all items read so far, the next one is read on from them, and all written out give back exactly the words read.
-pub record Goes_on (m : Meaning) (words : List ℕ) (items : List Item) (reading : Reading) (next : ℕ) : Type 0 where
+pub record GoesOn (m : Meaning) (words : List ℕ) (items : List Item) (reading : Reading) (next : ℕ) : Type 0 where
   pub read : Read m words (and_item items reading) next
   pub gives_back : all_written (and_item items reading) ≡ take next words
   pub whole : Whole words items reading
@@ -40,4 +40,4 @@ pub record HandsOut (m : Meaning) (words : List ℕ) (position : ℕ) (answer : 
   pub stands : Stands m words position (reading_of answer) next
   pub names : Names answer position
   pub only : (other : Reading) (after : ℕ) → Stands m words position other after → (other ≡ reading_of answer) × (after ≡ next)
-  pub goes_on : (items : List Item) → Read m words items position → Goes_on m words items (reading_of answer) next
+  pub goes_on : (items : List Item) → Read m words items position → GoesOn m words items (reading_of answer) next

@@ -79,7 +79,7 @@ frames_top_at stack at count k h l =
     cc
 
 -- an array of noughts
-pub get_d_noughts : (size x : ℕ) → ◌≡◌ {A = ℕ} (get_or (replicate size 0) x 0) 0
-get_d_noughts zero x = refl
-get_d_noughts (suc size) zero = refl
-get_d_noughts (suc size) (suc x) = get_d_noughts size x
+pub get_or_noughts : (size x : ℕ) → ◌≡◌ {A = ℕ} (get_or (replicate size 0) x 0) 0
+get_or_noughts zero x = refl
+get_or_noughts (suc size) zero = refl
+get_or_noughts (suc size) (suc x) = get_or_noughts size x

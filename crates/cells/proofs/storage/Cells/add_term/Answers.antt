@@ -4,7 +4,7 @@ use borrow.Rule.Slice.PartMut.{put_mid}
 use Rattle.std.proofs.lemmas.Slice.{overwrites}
 use Rattle.theory.specs.States.{term}
 use Rattle.cells.specs.Contents.{cells_of, plain_of}
-use Rattle.cells.proofs.Growth.{within_more, lower_more, short_more, headed_more, bare_more, places_more, term_added, part_item, get_d_set_below, get_d_set_at}
+use Rattle.cells.proofs.Growth.{within_more, lower_more, short_more, headed_more, bare_more, places_more, term_added, part_item, get_or_set_below, get_or_set_at}
 use Rattle.cells.proofs.Holdings.{count_is_length, count_below_2048, filled_is_places, standing_counted}
 use Rattle.cells.proofs.MissingNumbers.{below_all_stand}
 use Rattle.cells.proofs.storage.Cells.add_term.Goals as goal
@@ -56,6 +56,6 @@ returns c =
     record {
       cells = term_added t.heads t.starts t.counts t.places ps xs t.count t.filled _ _ _ c.args.code (search rules) (search rules) (search rules) (search rules) t.within
           (λ j h. search (rules, overwrites)) (search rules) (search (rules, overwrites));
-      plain = get_d_set_at t.plains t.count _ c.args.plain _ (count_is_length t) (search rules) (search rules);
-      others = λ i h. get_d_set_below t.plains t.count _ i (standing_counted t i h);
+      plain = get_or_set_at t.plains t.count _ c.args.plain _ (count_is_length t) (search rules) (search rules);
+      others = λ i h. get_or_set_below t.plains t.count _ i (standing_counted t i h);
     }
