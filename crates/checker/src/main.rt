@@ -5,9 +5,9 @@ mod command;
 mod files;
 mod plans;
 
-use anyhow::anyhow;
 use command::{Command, command_of, usage};
 use std::env;
+use std::process::ExitCode;
 
 /// How a run of the program ended, once it has said all that there is to say.
 pub enum Ending {
@@ -36,13 +36,13 @@ fn run(rt: &HostRuntime) -> anyhow::Result<Ending> {
     }
 }
 
-fn main(rt: HostRuntime) -> anyhow::Result<()> {
+fn main(rt: HostRuntime) -> ExitCode {
     match run(&rt) {
-        Ok(Ending::Fine) => Ok(()),
-        Ok(Ending::SentBack) => Err(anyhow!("sent back")),
+        Ok(Ending::Fine) => ExitCode::SUCCESS,
+        Ok(Ending::SentBack) => ExitCode::FAILURE,
         Err(error) => {
             let _ = eprintln!(rt; "checker: {error}");
-            Err(error)
+            ExitCode::FAILURE
         }
     }
 }
