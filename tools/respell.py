@@ -3,8 +3,8 @@
 
 usage: tools/respell.py [--dry]     at the top of a checkout, once, right after the toolchain's port script
 
-Types are in upper camel case (Is-type becomes IsType), every other word is in snake case (if-so becomes if_so). A question mark at the end of a word becomes `is_` or nothing
-where that is free. Labels that Rattle makes for the goals of a function keep their dashes: in proofs/FUNCTION/ a word is turned only where a file of specs/ or a file of lemmas
+Types are in upper camel case (Is-type becomes IsType), every other word is in snake case (if-so becomes if_so). A word that ends with a question
+mark, a decision, begins with `decide_`. Labels that Rattle makes for the goals of a function keep their dashes: in proofs/FUNCTION/ a word is turned only where a file of specs/ or a file of lemmas
 declares it, or the file itself beside the goals, and not behind `goal.` or `c.`. Functions of src/, strings and inputs keep their spelling; so do names of the toolchain's library.
 In docs/ and README.md a word is turned only between backticks.
 """
@@ -19,7 +19,7 @@ LIBRARY = re.compile(r"^\s*(?:ghost )?(?:pub )?use (?:Rattle\.(?:std|core|std_\w
 ANSWER = re.compile(r"/proofs/.*/[^/]+\.antt$")
 # labels of goals, and what a goal's context is asked for first
 LABEL = re.compile(r"(?<![^\s(])(goal|c|need|rules)\.$")
-# two words whose plain turning would meet another word
+# words that do not follow the rule: the first two are functions, not types
 BY_HAND = {
     "Tree-discrete": "tree_discrete",
     "Trees-discrete": "trees_discrete",
