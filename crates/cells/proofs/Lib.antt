@@ -1,5 +1,4 @@
 pub mod Growth
-pub mod Layouts
 pub mod Holdings
-pub mod KindsFixCells
 pub mod MissingNumbers
+pub mod OneAnswer

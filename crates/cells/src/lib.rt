@@ -1,3 +1,4 @@
+//! The cells of a workspace, in fixed memory.
 #![tactic(auto)]
 
 pub mod kind;
@@ -8,39 +9,30 @@ mod tests {
     use crate::kind::Kind;
     use crate::storage::Cells;
     use std::process::Abort;
-    use std::test::Fail;
 
     fn unknown(rt: &impl Abort, cells: &mut Cells, set: u8) {
         assert!(rt; cells.count() < 2048);
         cells.add_unknown(set);
     }
 
-    fn term(
-        rt: &impl Abort,
-        cells: &mut Cells,
-        code: u32,
-        plain: u32,
-        places: &[u32],
-    ) -> Result<(), Fail> {
+    fn term(rt: &impl Abort, cells: &mut Cells, code: u32, plain: u32, places: &[u32]) {
         assert!(rt; cells.count() < 2048);
         assert!(rt; places.len() <= 9);
         assert!(rt; cells.filled() + places.len() <= 4096);
         assert!(rt; code < 0x0100_0000);
-        if let Some(_) = cells.first_missing(places) {
-            return Err(Fail::new("a place has no cell"));
-        }
+        assert_eq!(rt; cells.first_missing(places), None);
         cells.add_term(code, plain, places);
-        Ok(())
     }
 
     fn reads(rt: &impl Abort, cells: &Cells, cell: u32, kind: Kind, parts: &[u32]) {
+        // `usize` has no `From<u32>`
         assert!(rt; (cell as usize) < cells.count());
         assert_eq!(rt; cells.kind(cell), kind);
         assert_eq!(rt; cells.parts(cell), parts);
     }
 
     #[test]
-    fn cells_are_read_back(rt: HostRuntime) -> Result<(), Fail> {
+    fn cells_are_read_back(rt: HostRuntime) {
         let mut cells = Cells::open();
         unknown(&rt, &mut cells, 255);
         term(
@@ -49,8 +41,8 @@ mod tests {
             0x00ff_ffff,
             0xffff_ffff,
             &[0, 0, 0, 0, 0, 0, 0, 0, 0],
-        )?;
-        term(&rt, &mut cells, 0, 7, &[1, 0])?;
+        );
+        term(&rt, &mut cells, 0, 7, &[1, 0]);
         assert_eq!(rt; cells.filled(), 11);
         reads(&rt, &cells, 0, Kind::Unknown(255), &[]);
         reads(
@@ -61,7 +53,18 @@ mod tests {
             &[0, 0, 0, 0, 0, 0, 0, 0, 0],
         );
         reads(&rt, &cells, 2, Kind::Term { plain: 7 }, &[1, 0]);
-        Ok(())
+    }
+
+    #[test]
+    fn the_code_of_a_term_is_read_back(rt: HostRuntime) {
+        let mut cells = Cells::open();
+        unknown(&rt, &mut cells, 1);
+        term(&rt, &mut cells, 0x00ff_ffff, 7, &[0]);
+        reads(&rt, &cells, 1, Kind::Term { plain: 7 }, &[0]);
+        assert!(rt; 1 < cells.count());
+        if let Kind::Term { .. } = cells.kind(1) {
+            assert_eq!(rt; cells.code(1), 0x00ff_ffff);
+        }
     }
 
     #[test]
@@ -73,27 +76,25 @@ mod tests {
     }
 
     #[test]
-    fn there_is_room_for_2048_cells(rt: HostRuntime) -> Result<(), Fail> {
+    fn there_is_room_for_2048_cells(rt: HostRuntime) {
         let mut cells = Cells::open();
         for _ in 0..2047 {
             unknown(&rt, &mut cells, 3);
         }
-        term(&rt, &mut cells, 1, 1, &[2046])?;
+        term(&rt, &mut cells, 1, 1, &[2046]);
         assert_eq!(rt; cells.count(), 2048);
         reads(&rt, &cells, 2047, Kind::Term { plain: 1 }, &[2046]);
-        Ok(())
     }
 
     #[test]
-    fn there_is_room_for_4096_places(rt: HostRuntime) -> Result<(), Fail> {
+    fn there_is_room_for_4096_places(rt: HostRuntime) {
         let mut cells = Cells::open();
         unknown(&rt, &mut cells, 3);
         for _ in 0..455 {
-            term(&rt, &mut cells, 1, 1, &[0, 0, 0, 0, 0, 0, 0, 0, 0])?;
+            term(&rt, &mut cells, 1, 1, &[0, 0, 0, 0, 0, 0, 0, 0, 0]);
         }
-        term(&rt, &mut cells, 2, 2, &[455])?;
+        term(&rt, &mut cells, 2, 2, &[455]);
         assert_eq!(rt; cells.filled(), 4096);
         reads(&rt, &cells, 456, Kind::Term { plain: 2 }, &[455]);
-        Ok(())
     }
 }

@@ -1,29 +1,35 @@
-ghost use Rattle.std.specs.Prelude.{◌≡◌, ◌≤◌};
-ghost use Rattle.cells.specs.CellLists.{places_in};
-ghost use Rattle.cells.specs.Layout.{Within, Lower, Short, Headed, Bare, cells_in};
+ghost use Rattle.std.specs.Prelude.{◌≡◌, ◌≤◌, All, take};
+ghost use Rattle.cells.specs.CellLists.{places_in, AllSound};
+ghost use Rattle.cells.specs.Layout.{cells_in, end_of};
 
 mod adds;
 mod reads;
 
+// What is kept of a cell: of a term also where its places begin among those of all, and how many they are.
+#[derive(Clone, Copy)]
+enum Entry {
+    Unknown {
+        set: u8,
+    },
+    Term {
+        code: u32,
+        plain: u32,
+        start: u16,
+        count: u8,
+    },
+}
+
 /// The cells of a workspace: at most 2,048, which have at most 4,096 places together.
 #[derive(Drop)]
 pub struct Cells {
-    // of a term its code, of an unknown 0x0100_0000 + its set
-    heads: [u32; 2048],
-    // of a term the plain code that it counts by
-    plains: [u32; 2048],
-    // where the places of a term begin, and how many they are
-    starts: [u16; 2048],
-    counts: [u8; 2048],
+    // The project fixes plain arrays for a workspace (no heap, no vector type), so their lengths in use stand beside.
+    entries: [Entry; 2048],
     places: [u32; 4096],
     count: usize,
     filled: usize,
     ghost few: { count ≤ 2048 },
     ghost room: { filled ≤ 4096 },
-    ghost within: { Within starts counts count filled },
-    ghost lower: { Lower starts counts places count },
-    ghost short: { Short counts count },
-    ghost headed: { Headed heads count },
-    ghost bare: { Bare heads counts count },
-    ghost brim: { places_in (cells_in heads starts counts places count) ≡ filled },
+    ghost within: { All (λ e. end_of e ≤ filled) (take count entries) },
+    ghost sound: { AllSound (cells_in entries places count) },
+    ghost brim: { places_in (cells_in entries places count) ≡ filled },
 }

@@ -3,18 +3,17 @@ ghost use Rattle.theory.specs.States.{unknown, term};
 ghost use Rattle.cells.specs.CellLists.{places_in, AllStand};
 ghost use Rattle.cells.specs.Contents.{cells_of, plain_of};
 
-use super::Cells;
+use super::{Cells, Entry};
 
+#[tactic(auto, using(crate::proofs::Holdings::held), unfolding(crate::specs::Contents::plain_of))]
 impl Cells {
     /// No cells.
+    #[tactic(auto, unfolding(crate::specs::Contents::cells_of))]
     pub fn open() -> Cells
         ensures { cells_of result ≡ [] }
     {
         Cells {
-            heads: [0; 2048],
-            plains: [0; 2048],
-            starts: [0; 2048],
-            counts: [0; 2048],
+            entries: [Entry::Unknown { set: 0 }; 2048],
             places: [0; 4096],
             count: 0,
             filled: 0,
@@ -27,11 +26,8 @@ impl Cells {
         ensures cells { cells_of self.new ≡ cells_of self.old ++ (unknown set ∷ []) }
         ensures others { (i : ℕ) → i < length (cells_of self.old) → plain_of self.new i ≡ plain_of self.old i }
     {
-        let cell = self.count;
-        self.heads[cell] = 0x0100_0000 + set as u32;
-        self.starts[cell] = 0;
-        self.counts[cell] = 0;
-        self.count = cell + 1;
+        self.entries[self.count] = Entry::Unknown { set };
+        self.count += 1;
     }
 
     /// Adds a term of the code, which counts by the plain code, with the cells in its places.
@@ -43,15 +39,17 @@ impl Cells {
         ensures plain { plain_of self.new (length (cells_of self.old)) ≡ plain }
         ensures others { (i : ℕ) → i < length (cells_of self.old) → plain_of self.new i ≡ plain_of self.old i }
     {
-        let cell = self.count;
-        let from = self.filled;
-        let upto = from + places.len();
-        self.places[from..upto].copy_from_slice(places);
-        self.heads[cell] = code;
-        self.plains[cell] = plain;
-        self.starts[cell] = from as u16;
-        self.counts[cell] = places.len() as u8;
-        self.filled = upto;
-        self.count = cell + 1;
+        let start = self.filled;
+        let end = start + places.len();
+        self.places[start..end].copy_from_slice(places);
+        // proved to fit: there are at most 4,096 places, and 9 of a term
+        self.entries[self.count] = Entry::Term {
+            code,
+            plain,
+            start: start as u16,
+            count: places.len() as u8,
+        };
+        self.count += 1;
+        self.filled = end;
     }
 }

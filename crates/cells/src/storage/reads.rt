@@ -1,11 +1,15 @@
-ghost use Rattle.std.specs.Prelude.{◌≡◌, ℕ, ◌<◌, ◌≤◌, length, slice_index};
-ghost use Rattle.cells.specs.CellLists.{places_in, code_at, places_at, IsTerm, FirstMissing};
+ghost use Rattle.std.specs.Prelude.{◌≡◌, ℕ, ◌<◌, ◌≤◌, length, slice_get, slice_index, Some};
+ghost use Rattle.cells.specs.CellLists.{places_in, code_at, places_at, IsTerm, IsSound, FirstMissing};
+ghost use Rattle.cells.specs.Layout.{cell_in, plain_in, end_of};
 ghost use Rattle.cells.specs.Contents.{cells_of, plain_of};
 ghost use Rattle.cells.specs.Kinds.{KindAt};
 
-use super::Cells;
+use super::{Cells, Entry};
 use crate::kind::Kind;
 
+// Cells go by the numbers that callers bring, and a store grows between calls, so no type of its own can say that a number
+// stands here: each call that needs it asks for it. They are cast, since `usize` has no `From<u32>`.
+#[tactic(auto, using(crate::proofs::Holdings::held), unfolding(crate::specs::Contents::plain_of))]
 impl Cells {
     /// How many cells there are.
     pub fn count(&self) -> usize
@@ -23,18 +27,25 @@ impl Cells {
         self.filled
     }
 
+    // What is kept of the cell.
+    fn entry(&self, cell: u32) -> Entry
+        requires { cell < length (cells_of self.now) }
+        ensures cell { slice_get (cells_of self.now) cell ≡ Some (cell_in self.now.places result) }
+        ensures plain { plain_of self.now cell ≡ plain_in result }
+        ensures sound { IsSound cell (cell_in self.now.places result) }
+        ensures ends { end_of result ≤ self.now.filled }
+    {
+        self.entries[cell as usize]
+    }
+
     /// What the cell is.
     pub fn kind(&self, cell: u32) -> Kind
         requires { cell < length (cells_of self.now) }
         ensures { KindAt (cells_of self.now) (plain_of self.now cell) cell result }
     {
-        let head = self.heads[cell as usize];
-        if head < 0x0100_0000 {
-            Kind::Term {
-                plain: self.plains[cell as usize],
-            }
-        } else {
-            Kind::Unknown((head - 0x0100_0000) as u8)
+        match self.entry(cell) {
+            Entry::Unknown { set } => Kind::Unknown(set),
+            Entry::Term { plain, .. } => Kind::Term { plain },
         }
     }
 
@@ -44,7 +55,10 @@ impl Cells {
         ensures value { result ≡ code_at (cells_of self.now) cell }
         ensures small { result < 16777216 }
     {
-        self.heads[cell as usize]
+        match self.entry(cell) {
+            Entry::Term { code, .. } => code,
+            Entry::Unknown { .. } => unreachable!(),
+        }
     }
 
     /// The cells in the places of a term, and none of an unknown.
@@ -54,20 +68,22 @@ impl Cells {
         ensures few { length result.now ≤ 9 }
         ensures lower { (k : ℕ) → k < length result.now → slice_index result.now k < cell }
     {
-        let from = self.starts[cell as usize] as usize;
-        let upto = from + self.counts[cell as usize] as usize;
-        &self.places[from..upto]
+        match self.entry(cell) {
+            Entry::Unknown { .. } => &[],
+            Entry::Term { start, count, .. } => {
+                let start = usize::from(start);
+                &self.places[start..start + usize::from(count)]
+            }
+        }
     }
 
     /// The first of the cells that does not stand here, if one does not.
     pub fn first_missing(&self, cells: &[u32]) -> Option<u32>
         ensures { FirstMissing (cells_of self.now) cells.now result }
     {
-        for cell in cells {
-            if *cell as usize >= self.count {
-                return Some(*cell);
-            }
-        }
-        None
+        cells
+            .iter()
+            .copied()
+            .find(|cell| *cell as usize >= self.count)
     }
 }

@@ -1,11 +1,16 @@
--- The numbers before the one that is returned, or all of them, passed the test.
-use Rattle.std.proofs.Common.{rules}
+-- What the library's `find` says of the numbers.
+use Rattle.std.proofs.Common.{◌<◌, ◌≤◌, length, rules, tests}
+use Rattle.std.proofs.lemmas.Iterator.{first_from_find, YieldsList-from_slice}
+use Rattle.std.proofs.lemmas.Iterator.Consumers.{YieldsList-from_copied}
+use Rattle.cells.specs.Contents.{cells_of}
+use Rattle.cells.proofs.MissingNumbers.{first_missing_from_find}
 use Rattle.cells.proofs.Holdings.{count_is_length}
-use Rattle.cells.proofs.MissingNumbers.{missing_at, all_stand_below}
 use Rattle.cells.proofs.storage.Cells.first_missing.Goals as goal
 
-pub returns-then-cell-self : goal.returns-then-cell-self
-returns-then-cell-self c = missing_at _ c.args.cells.now c.args.self.now.count c.loop-cell.cell-index (count_is_length c.args.self.now) (search rules) c.loop-cell.invariant (search rules)
-
 pub returns : goal.returns
-returns c = all_stand_below _ c.args.cells.now c.args.self.now.count (count_is_length c.args.self.now) (search rules)
+returns c =
+    let cells = cells_of c.args.self.now in
+    let counted = count_is_length c.args.self.now (search rules) in
+    first_missing_from_find cells c.args.cells.now c.find.result
+    (first_from_find _ _ _ (λ x. length cells ≤ x) (λ x. x < length cells) c.find.ensures.ran (YieldsList-from_copied (YieldsList-from_slice c.args.cells.now cc))
+    (λ x q k. search (rules, tests)) (λ x q k. search (rules, tests)))

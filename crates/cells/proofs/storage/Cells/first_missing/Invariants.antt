@@ -1,6 +1,0 @@
--- Each of the numbers before this one is below the count.
-use Rattle.std.proofs.Common.{ℕ, ◌<◌, get_or}
-use Rattle.cells.proofs.storage.Cells.first_missing.Given as goal
-
-abbrev pub invariant-loop-cell : goal.invariant-loop-cell
-invariant-loop-cell l = (k : ℕ) → k < l.cell-index → get_or l.cells k 0 < l.self.count
