@@ -1,6 +1,6 @@
 pub mod Times
-pub mod Ways
 pub mod Counting
+pub mod Ways
 pub mod ForestsChange
 pub mod LabelLaws
 pub mod UndoingLinks

@@ -1,11 +1,9 @@
--- Cells that point to parents, over the list of parents: the way up from a cell, and the facts that let every way end. Assumes nothing.
-use Rattle.std.specs.Prelude.{◌≡◌, ℕ, zero, suc, ◌+◌, ◌<◌, List, ◌≢◌, slice_index}
-use Rattle.std.proofs.Math.Decide.{ℕ_discrete, dec_lt}
-use Rattle.theory.specs.IfSo.{if_so}
+-- Cells that point to parents: the way up from a cell, and the facts that let every way end. Assumes nothing.
+use Rattle.std.specs.Prelude.{◌≡◌, ℕ, zero, suc, ◌+◌, ◌<◌, ◌≤◌, ◌≢◌, ◌==◌, nat_lt, if◌then◌else◌}
 
 -- the parent of a cell; a number that is not a cell is its own
-unfoldable pub next_in : (parents : List ℕ) (count : ℕ) → ℕ → ℕ
-next_in parents count i = if_so (dec_lt i count) (slice_index parents i) i
+unfoldable pub next_in : (parent : ℕ → ℕ) (count : ℕ) → ℕ → ℕ
+next_in parent count i = if nat_lt i count then parent i else i
 
 -- where that many steps lead
 unfoldable pub follow : (ℕ → ℕ) → ℕ → ℕ → ℕ
@@ -13,35 +11,32 @@ follow f zero i = i
 follow f (suc k) i = follow f k (f i)
 
 -- The representative of a cell's class. There are at most 2,048 cells, so as many steps reach it.
-unfoldable pub label_in : (parents : List ℕ) (count : ℕ) → ℕ → ℕ
-label_in parents count i = follow (next_in parents count) 2048 i
-
--- each parent is a cell
-abbrev pub Inside : (parents : List ℕ) (count : ℕ) → Type 0
-Inside parents count = (i : ℕ) → i < count → slice_index parents i < count
+unfoldable pub label_in : (parent : ℕ → ℕ) (count : ℕ) → ℕ → ℕ
+label_in parent count i = follow (next_in parent count) 2048 i
 
 -- how many cells have another cell for a parent
-unfoldable pub lowered : (parents : List ℕ) (count : ℕ) → ℕ
-lowered parents zero = 0
-lowered parents (suc n) = if_so (ℕ_discrete (slice_index parents n) n) 0 1 + lowered parents n
-
-abbrev pub Counted : (parents : List ℕ) (count links : ℕ) → Type 0
-Counted parents count links = lowered parents count ≡ links
+unfoldable pub lowered : (parent : ℕ → ℕ) (count : ℕ) → ℕ
+lowered parent zero = 0
+lowered parent (suc n) = if parent n == n then lowered parent n else lowered parent n + 1
 
 -- the number of the link by which a cell got another parent, or 2,048 where it got none
-unfoldable pub time_in : (lower : List ℕ) (links : ℕ) → ℕ → ℕ
+unfoldable pub time_in : (lower : ℕ → ℕ) (links : ℕ) → ℕ → ℕ
 time_in lower zero i = 2048
-time_in lower (suc k) i = if_so (ℕ_discrete (slice_index lower k) i) k (time_in lower k i)
+time_in lower (suc k) i = if lower k == i then k else time_in lower k i
 
--- a cell that is its own parent was not linked
-abbrev pub Unlinked : (time : ℕ → ℕ) (parents : List ℕ) (count : ℕ) → Type 0
-Unlinked time parents count = (i : ℕ) → i < count → slice_index parents i ≡ i → time i ≡ 2048
-
--- a cell with another parent was linked, and before its parent was
-abbrev pub Rising : (time : ℕ → ℕ) (parents : List ℕ) (count links : ℕ) → Type 0
-Rising time parents count links = (i : ℕ) → i < count → (slice_index parents i ≢ i) → (time i < links) × (time i < time (slice_index parents i))
-
--- each link of the trail is of a cell that has another parent since
-abbrev pub Trailed : (time : ℕ → ℕ) (parents lower : List ℕ) (count links : ℕ) → Type 0
-Trailed time parents lower count links =
-    (k : ℕ) → k < links → (slice_index lower k < count) × (time (slice_index lower k) ≡ k) × (slice_index parents (slice_index lower k) ≢ slice_index lower k)
+-- Every way up ends: cells are linked one after another, each before its parent is.
+pub record Forest (parent lower : ℕ → ℕ) (count links : ℕ) : Type 0 where
+  pub few : count ≤ 2048
+  -- each parent is a cell
+  pub inside : (i : ℕ) → i < count → parent i < count
+  -- as many cells have another parent as links were made
+  pub counted : lowered parent count ≡ links
+  -- a cell that is its own parent was not linked
+  pub unlinked : (i : ℕ) → i < count → parent i ≡ i → time_in lower links i ≡ 2048
+  -- a cell with another parent was linked, and before its parent was
+  pub linked : (i : ℕ) → i < count → (parent i ≢ i) → time_in lower links i < links
+  pub rising : (i : ℕ) → i < count → (parent i ≢ i) → time_in lower links i < time_in lower links (parent i)
+  -- each link of the trail is of a cell that has another parent since
+  pub trail_inside : (k : ℕ) → k < links → lower k < count
+  pub trail_times : (k : ℕ) → k < links → time_in lower links (lower k) ≡ k
+  pub trail_linked : (k : ℕ) → k < links → (parent (lower k) ≢ lower k)

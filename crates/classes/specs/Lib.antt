@@ -1,4 +1,5 @@
 pub mod Forests
+pub mod Trails
 pub mod Views
 pub mod Rewinding
 pub mod Moves

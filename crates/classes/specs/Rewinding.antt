@@ -1,19 +1,17 @@
 -- What undoing the links made since a mark gives back. Assumes nothing.
 use Rattle.std.specs.Prelude.{◌≡◌, ℕ, zero, suc, ◌+◌, ◌<◌, List, slice_set}
 use Rattle.classes.specs.declared.forest.Classes.{Classes}
-use Rattle.classes.specs.Views.{count_of, links_of, label_of, shape_of, set_of, lower_of, upper_of, old_shape_of, old_set_of}
+use Rattle.classes.specs.Views.{count_of, links_of, label_of, shape_of, set_of, entry_of, lower_of, upper_of, old_class_of}
 
 -- a list with the old values put back, from the last of `links` entries since the mark down to the first
-unfoldable pub restored : (at old : ℕ → ℕ) (mark links : ℕ) → List ℕ → List ℕ
+unfoldable pub restored : {A : Type 0} (at : ℕ → ℕ) (old : ℕ → A) (mark links : ℕ) → List A → List A
 restored at old mark zero values = values
 restored at old mark (suc j) values = restored at old mark j (slice_set values (at (mark + j)) (old (mark + j)))
 
--- the first `links` entries of the trail are the same
+-- the first `links` entries of the trail are the same, and so are the classes that others went under by them
 pub record SameEntries (links : ℕ) (was now : Classes) : Type 0 where
-  pub lowers : (k : ℕ) → k < links → lower_of now k ≡ lower_of was k
+  pub entries : (k : ℕ) → k < links → entry_of now k ≡ entry_of was k
   pub uppers : (k : ℕ) → k < links → upper_of now k ≡ upper_of was k
-  pub old_shapes : (k : ℕ) → k < links → old_shape_of now k ≡ old_shape_of was k
-  pub old_sets : (k : ℕ) → k < links → old_set_of now k ≡ old_set_of was k
 
 -- the links that `now` has since the mark, and what is held once they are undone
 pub record Undoes (mark : ℕ) (was now : Classes) : Type 0 where
@@ -22,8 +20,7 @@ pub record Undoes (mark : ℕ) (was now : Classes) : Type 0 where
   pub at_mark : links_of was ≡ mark
   pub count : count_of now ≡ count_of was
   pub parents : restored (lower_of now) (lower_of now) mark since now.parents ≡ was.parents
-  pub shapes : restored (upper_of now) (old_shape_of now) mark since now.shapes ≡ was.shapes
-  pub sets : restored (upper_of now) (old_set_of now) mark since now.sets ≡ was.sets
+  pub classes : restored (upper_of now) (old_class_of now) mark since now.classes ≡ was.classes
   pub entries : SameEntries mark was now
 
 -- Undoing the links of `now` back to the mark gives what `was` holds.
@@ -44,6 +41,5 @@ pub record Undone (was now : Classes) : Type 0 where
   pub count : count_of now ≡ count_of was
   pub links : links_of now + 1 ≡ links_of was
   pub parents : now.parents ≡ slice_set was.parents (lower_of was (links_of now)) (lower_of was (links_of now))
-  pub shapes : now.shapes ≡ slice_set was.shapes (upper_of was (links_of now)) (old_shape_of was (links_of now))
-  pub sets : now.sets ≡ slice_set was.sets (upper_of was (links_of now)) (old_set_of was (links_of now))
+  pub classes : now.classes ≡ slice_set was.classes (upper_of was (links_of now)) (old_class_of was (links_of now))
   pub entries : SameEntries (links_of now) was now

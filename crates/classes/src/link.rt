@@ -1,5 +1,5 @@
 /// One link of the trail.
-#[derive(Clone, Copy)]
+#[derive(Clone, Copy, Debug, PartialEq, Eq)]
 pub struct Link {
     /// The class that went under another.
     pub lower: u16,

@@ -2,8 +2,10 @@ ghost use Rattle.std.specs.Prelude.{◌≡◌, ℕ, ◌<◌};
 ghost use Rattle.classes.specs.Views.{count_of, links_of, label_of, shape_of, set_of};
 ghost use Rattle.classes.specs.Moves.{Added};
 
-use crate::forest::Classes;
+use crate::forest::{Class, Classes, Entry};
 
+// Cells go by the numbers that callers bring, and cells are added between calls, so no type of its own can say that a number
+// is one: each call that needs it asks for it.
 impl Classes {
     /// No cells and no links.
     pub fn open() -> Classes
@@ -13,12 +15,8 @@ impl Classes {
     {
         Classes {
             parents: [0; 2048],
-            sizes: [0; 2048],
-            shapes: [0; 2048],
-            sets: [0; 2048],
-            lower: [0; 2048],
-            old_shapes: [0; 2048],
-            old_sets: [0; 2048],
+            classes: [Class::default(); 2048],
+            trail: [Entry::default(); 2048],
             count: 0,
             links: 0,
         }
@@ -36,15 +34,19 @@ impl Classes {
         requires { count_of self.old < 2048 }
         ensures { Added shape set self.old self.new }
     {
-        let n = self.count;
-        self.parents[n] = n as u16;
-        self.sizes[n] = 1;
-        self.shapes[n] = shape;
-        self.sets[n] = set;
-        self.count = n + 1;
+        let cell = self.count;
+        // proved to fit: there are at most 2,048 cells
+        self.parents[cell] = cell as u16;
+        self.classes[cell] = Class {
+            size: 1,
+            shape,
+            set,
+        };
+        self.count += 1;
     }
 
     /// The representative of the cell's class.
+    #[tactic(auto, using(crate::proofs::LabelLaws::own_label, crate::proofs::LabelLaws::parent_label, crate::proofs::LabelLaws::time_rises))]
     pub fn find(&self, cell: u16) -> u16
         requires { cell < count_of self.now }
         ensures value { result ≡ label_of self.now cell }
@@ -52,25 +54,27 @@ impl Classes {
         ensures own { label_of self.now result ≡ result }
     {
         let mut at = cell;
-        while self.parents[at as usize] != at {
-            at = self.parents[at as usize];
+        while self.parents[usize::from(at)] != at {
+            at = self.parents[usize::from(at)];
         }
         at
     }
 
     /// The shape of the class, by its representative.
+    #[tactic(auto, unfolding(crate::specs::Views::class_of))]
     pub fn shape(&self, class: u16) -> u16
         requires { class < count_of self.now }
         ensures { result ≡ shape_of self.now class }
     {
-        self.shapes[class as usize]
+        self.classes[usize::from(class)].shape
     }
 
     /// The set of the class, by its representative.
+    #[tactic(auto, unfolding(crate::specs::Views::class_of))]
     pub fn set(&self, class: u16) -> u8
         requires { class < count_of self.now }
         ensures { result ≡ set_of self.now class }
     {
-        self.sets[class as usize]
+        self.classes[usize::from(class)].set
     }
 }

@@ -3,7 +3,7 @@ ghost use Rattle.classes.specs.Views.{count_of, links_of, label_of, size_of, low
 ghost use Rattle.classes.specs.Moves.{Linked, Reshaped, Rewound};
 ghost use Rattle.classes.specs.Rewinding.{Undone};
 
-use crate::forest::Classes;
+use crate::forest::{Class, Classes, Entry};
 use crate::link::Link;
 
 impl Classes {
@@ -15,11 +15,12 @@ impl Classes {
     }
 
     /// Whether the class `x` has more cells than the class `y`.
+    #[tactic(auto, unfolding(crate::specs::Views::class_of))]
     pub fn outweighs(&self, x: u16, y: u16) -> bool
         requires { (x < count_of self.now) × (y < count_of self.now) }
         ensures { result ≡ nat_lt (size_of self.now y) (size_of self.now x) }
     {
-        self.sizes[x as usize] > self.sizes[y as usize]
+        self.classes[usize::from(x)].size > self.classes[usize::from(y)].size
     }
 
     /// Puts the class `x` under the class `y`, which gets the shape and the union of both sets.
@@ -29,31 +30,32 @@ impl Classes {
         requires apart { x ≢ y }
         ensures { Linked x y shape self.old self.new }
     {
-        let (lower, upper) = (x as usize, y as usize);
-        let k = self.links;
-        let old_set = self.sets[upper];
-        self.lower[k] = x;
-        self.old_shapes[k] = self.shapes[upper];
-        self.old_sets[k] = old_set;
+        let (lower, upper) = (usize::from(x), usize::from(y));
+        let was = self.classes[upper];
+        self.trail[self.links] = Entry { lower: x, was };
         self.parents[lower] = y;
-        self.sizes[upper] = self.sizes[upper].wrapping_add(self.sizes[lower]);
-        self.shapes[upper] = shape;
-        self.sets[upper] = old_set | self.sets[lower];
-        self.links = k + 1;
+        self.classes[upper] = Class {
+            // No fact bounds a size, since sizes only say which class to put under which.
+            size: was.size.wrapping_add(self.classes[lower].size),
+            shape,
+            set: was.set | self.classes[lower].set,
+        };
+        self.links += 1;
     }
 
     /// The link with number `k`, counted from the oldest.
+    #[tactic(auto, using(crate::proofs::LabelLaws::lower_within), unfolding(crate::specs::Views::entry_of, crate::specs::Views::upper_of))]
     pub fn entry(&self, k: usize) -> Link
         requires { k < links_of self.now }
         ensures lower { result.lower ≡ lower_of self.now k }
         ensures upper { result.upper ≡ upper_of self.now k }
         ensures old_shape { result.old_shape ≡ old_shape_of self.now k }
     {
-        let lower = self.lower[k];
+        let Entry { lower, was } = self.trail[k];
         Link {
             lower,
-            upper: self.parents[lower as usize],
-            old_shape: self.old_shapes[k],
+            upper: self.parents[usize::from(lower)],
+            old_shape: was.shape,
         }
     }
 
@@ -62,8 +64,8 @@ impl Classes {
         requires { k < links_of self.old }
         ensures { Reshaped k shape self.old self.new }
     {
-        let upper = self.parents[self.lower[k] as usize];
-        self.shapes[upper as usize] = shape;
+        let upper = self.entry(k).upper;
+        self.classes[usize::from(upper)].shape = shape;
     }
 
     /// Undoes the links from the last back to number `mark`.
@@ -71,23 +73,21 @@ impl Classes {
         requires { mark ≤ links_of self.old }
         ensures { Rewound mark self.old self.new }
     {
-        while self.links > mark {
+        for _ in mark..self.links {
             self.undo();
         }
     }
 
     /// Undoes the last link.
+    #[tactic(auto, using(crate::proofs::LabelLaws::lower_within, crate::proofs::LabelLaws::upper_within), unfolding(crate::specs::Views::entry_of, crate::specs::Views::upper_of))]
     fn undo(&mut self)
         requires { 0 < links_of self.old }
         ensures { Undone self.old self.new }
     {
-        let k = self.links - 1;
-        let lower = self.lower[k];
-        let upper = self.parents[lower as usize] as usize;
-        self.parents[lower as usize] = lower;
-        self.sizes[upper] = self.sizes[upper].wrapping_sub(self.sizes[lower as usize]);
-        self.shapes[upper] = self.old_shapes[k];
-        self.sets[upper] = self.old_sets[k];
-        self.links = k;
+        self.links -= 1;
+        let Entry { lower, was } = self.trail[self.links];
+        let upper = self.parents[usize::from(lower)];
+        self.parents[usize::from(lower)] = lower;
+        self.classes[usize::from(upper)] = was;
     }
 }

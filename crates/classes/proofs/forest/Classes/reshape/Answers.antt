@@ -1,18 +1,16 @@
-use Rattle.std.proofs.Common.{refl, rules}
-use Rattle.classes.specs.Views.{upper_of}
-use Rattle.classes.proofs.LabelLaws.{links_within_count, upper_within}
+use Rattle.std.proofs.Common.{◌≡◌, arith, rules}
+use Rattle.std.proofs.lemmas.Grind.{get_or-set_at}
+use Rattle.classes.specs.Views.{class_of, upper_of}
+use Rattle.classes.proofs.LabelLaws.{upper_within}
 use Rattle.classes.proofs.Changes.{upper_reshaped}
 use Rattle.classes.proofs.forest.Classes.reshape.Goals as goal
 
-pub offset_bounds-self-k : goal.offset_bounds-self-k
-offset_bounds-self-k c = let l = links_within_count c.args.self.now in search rules
-
-pub bounds-self-k : goal.bounds-self-k
-bounds-self-k c = let l = links_within_count c.args.self.now in search rules
+pub bounds-self-from : goal.bounds-self-from
+bounds-self-from c = grind (arith, upper_within c.args.self.now c.args.k)
 
 pub returns : goal.returns
-unfolding upper_of
+unfolding class_of
 returns c =
-    let t = c.args.self.now in
-    let u = upper_within t c.args.k c.requires in
-    upper_reshaped t _ c.args.k c.args.shape refl refl refl refl refl refl refl refl (search rules) c.requires
+    let u = upper_within c.args.self.now c.args.k c.requires in
+    let e : c.from.result ≡ upper_of c.args.self.now c.args.k = cc in
+    upper_reshaped c.args.k c.args.self.now _ (search (rules, get_or-set_at)) c.requires _ (search (rules, get_or-set_at)) (search (rules, get_or-set_at))
