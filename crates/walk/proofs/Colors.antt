@@ -1,61 +1,48 @@
--- What the color of a node says of the walk. Assumes nothing.
-use Rattle.std.proofs.Common.{◌≡◌, ℕ, true, false, eqb, ◌⊎◌, List, MatchBool, inl, inr, arith}
-use Rattle.std.proofs.lemmas.Bool.Decides.{eqb_tells}
-use Rattle.theory.specs.Walks.{In, Stack, nodes}
-use Rattle.walk.specs.Stands.{Colored, untouched, on_stack, is_done}
+-- What the colors of a walk say, and what a write to them changes. Assumes nothing.
+use Rattle.std.proofs.Common.{◌≡◌, ◌≢◌, ℕ, ◌<◌, ◌≤◌, List, length, cond, get_or, set, replicate, refl, arith, get_or-set_other, get_or-set_same}
+use Rattle.std.proofs.Math.Decide.{ℕ_discrete}
+use Rattle.std.proofs.lemmas.Bool.{cases_lt}
+use Rattle.std.proofs.lemmas.Grind.{common_steps}
+use Rattle.std.proofs.lemmas.List.{get_or_past}
+use Rattle.std.proofs.lemmas.List.Sums.{sum_by-set}
+use Rattle.std.specs.List.{count_by}
+use Rattle.theory.specs.Walks.{In}
+use Rattle.walk.specs.declared.state.Color.{Color}
+use Rattle.walk.specs.declared.state.Color.TheVariants.{Untouched, OnStack, Done}
+use Rattle.walk.specs.Progress.{Progress, on_stack}
+use Rattle.walk.specs.Stands.{Colored, is_untouched}
 
-module _ {done : List ℕ} {stack : Stack} {x : ℕ} where
-  pub colored_done : {c : ℕ} → Colored done stack x c → c ≡ 2 → In x done
-  colored_done (untouched a b) e = absurd (omega arith)
-  colored_done (on_stack a b) e = absurd (omega arith)
-  colored_done (is_done a b) e = a
+-- in an array of one color every node has it
+pub blank_everywhere : (size x : ℕ) → get_or (replicate size Untouched) x Untouched ≡ Untouched
+blank_everywhere size x = grind (arith, common_steps, cases_lt x size, get_or_past (replicate size Untouched) x Untouched)
 
-  pub done_colored : {c : ℕ} → Colored done stack x c → In x done → c ≡ 2
-  done_colored (untouched a b) p = absurd (a p)
-  done_colored (on_stack a b) p = absurd (b p)
-  done_colored (is_done a b) p = omega arith
+pub on_stack_not_done : (p : Progress) (x : ℕ) (c : Color) → Colored p x c → In x (on_stack p) → In x p.done → ⊥
+on_stack_not_done p x Untouched h q r = h.0 r
+on_stack_not_done p x OnStack h q r = h.1 r
+on_stack_not_done p x Done h q r = h.1 q
 
-  pub untouched_outside_done : {c : ℕ} → Colored done stack x c → c ≡ 0 → In x done → ⊥
-  untouched_outside_done (untouched a b) e = a
-  untouched_outside_done (on_stack a b) e = absurd (omega arith)
-  untouched_outside_done (is_done a b) e = absurd (omega arith)
-
-  pub untouched_outside_stack : {c : ℕ} → Colored done stack x c → c ≡ 0 → In x (nodes stack) → ⊥
-  untouched_outside_stack (untouched a b) e = b
-  untouched_outside_stack (on_stack a b) e = absurd (omega arith)
-  untouched_outside_stack (is_done a b) e = absurd (omega arith)
-
-  pub colored_on_stack : {c : ℕ} → Colored done stack x c → c ≡ 1 → In x (nodes stack)
-  colored_on_stack (untouched a b) e = absurd (omega arith)
-  colored_on_stack (on_stack a b) e = a
-  colored_on_stack (is_done a b) e = absurd (omega arith)
-
-  -- the third color
-  pub colored_else_done : {c : ℕ} → Colored done stack x c → (c ≡ 0 → ⊥) → (c ≡ 1 → ⊥) → In x done
-  colored_else_done (untouched a b) e f = absurd (e (omega arith))
-  colored_else_done (on_stack a b) e f = absurd (f (omega arith))
-  colored_else_done (is_done a b) e f = a
-
-  pub colored_else_untouched : {c : ℕ} → Colored done stack x c → (In x done → ⊥) → (In x (nodes stack) → ⊥) → c ≡ 0
-  colored_else_untouched (untouched a b) e f = omega arith
-  colored_else_untouched (on_stack a b) e f = absurd (f a)
-  colored_else_untouched (is_done a b) e f = absurd (e a)
-
-  pub on_stack_not_done : {c : ℕ} → Colored done stack x c → In x (nodes stack) → In x done → ⊥
-  on_stack_not_done (untouched a b) p q = a q
-  on_stack_not_done (on_stack a b) p q = b q
-  on_stack_not_done (is_done a b) p q = b p
-
-  pub color_tells_done : {c : ℕ} → Colored done stack x c → MatchBool (eqb c 2) (In x done) (In x done → ⊥)
-  color_tells_done {c} colored = go (eqb_tells c 2)
-    where
-      go : ((eqb c 2 ≡ true) × (c ≡ 2)) ⊎ ((eqb c 2 ≡ false) × (c ≡ 2 → ⊥)) → MatchBool (eqb c 2) (In x done) (In x done → ⊥)
-      go (inl h) = let e = h.0 in rw e (colored_done colored h.1)
-      go (inr h) = let e = h.0 in rw e (λ p. h.1 (done_colored colored p))
+pub else_untouched : (p : Progress) (x : ℕ) (c : Color) → Colored p x c → (In x (on_stack p) → ⊥) → (c ≡ Done → ⊥) → c ≡ Untouched
+else_untouched p x Untouched h not_stacked not_done = refl
+else_untouched p x OnStack h not_stacked not_done = absurd (not_stacked h.0)
+else_untouched p x Done h not_stacked not_done = absurd (not_done refl)
 
 -- a node whose places in the two lists have not changed keeps its color
-pub same_color : {done done' : List ℕ} {stack stack' : Stack} {x c : ℕ} → (In x done → In x done') → (In x done' → In x done) →
-    (In x (nodes stack) → In x (nodes stack')) → (In x (nodes stack') → In x (nodes stack)) → Colored done stack x c → Colored done' stack' x c
-same_color d d' s s' (untouched a b) = untouched (λ p. a (d' p)) (λ p. b (s' p))
-same_color d d' s s' (on_stack a b) = on_stack (s a) (λ p. b (d' p))
-same_color d d' s s' (is_done a b) = is_done (d a) (λ p. b (s' p))
+pub same_color : (p p' : Progress) (x : ℕ) (c : Color) → (In x p.done → In x p'.done) × (In x p'.done → In x p.done) →
+    (In x (on_stack p) → In x (on_stack p')) × (In x (on_stack p') → In x (on_stack p)) → Colored p x c → Colored p' x c
+same_color p p' x Untouched d s h = (λ q. h.0 (d.1 q), λ q. h.1 (s.1 q))
+same_color p p' x OnStack d s h = (s.0 h.0, λ q. h.1 (d.1 q))
+same_color p p' x Done d s h = (d.0 h.0, λ q. h.1 (s.1 q))
+
+module _ (colors : List Color) (y : ℕ) (fits : y < length colors) where
+  -- what a written color says of its node and the others of theirs
+  pub painted_anew : (c : Color) (P : ℕ → Color → Type 0) → P y c → ((x : ℕ) → x ≢ y → P x (get_or colors x Untouched)) → (x : ℕ) → P x (get_or (set colors y c) x Untouched)
+  painted_anew c P here there x = elim (ℕ_discrete x y) [
+    | yes e ↦ let f = get_or-set_same colors y c Untouched fits in rw (e, f) here
+    | no ne ↦ let f = get_or-set_other colors y x c Untouched ne in rw f (there x ne)
+  ]
+
+  pub fewer_untouched : get_or colors y Untouched ≡ Untouched → count_by is_untouched (set colors y OnStack) < count_by is_untouched colors
+  fewer_untouched blank = let h = rw blank at (sum_by-set (λ c. cond (is_untouched c) 1 0) colors y OnStack Untouched fits) in omega arith
+
+  pub no_more_untouched : count_by is_untouched (set colors y Done) ≤ count_by is_untouched colors
+  no_more_untouched = let h = sum_by-set (λ c. cond (is_untouched c) 1 0) colors y Done Untouched fits in omega arith

@@ -1,9 +1,5 @@
+pub mod Members
 pub mod Colors
-pub mod Once
+pub mod Moves
 pub mod Orders
-pub mod Arrays
-pub mod Standings
-pub mod Measures
-pub mod Goes
 pub mod Ends
-pub mod Rows

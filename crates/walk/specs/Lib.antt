@@ -1,4 +1,4 @@
-pub mod Views
+pub mod Progress
 pub mod Stands
 pub mod Order
 pub mod Rows

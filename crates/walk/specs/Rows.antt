@@ -1,6 +1,11 @@
--- The edges of a node that has at most two, of a graph with n nodes. Assumes nothing.
-use Rattle.std.specs.Prelude.{ℕ, cond, List, [], ◌∷◌, nat_lt}
+-- The edges of a graph that is given by rows of two places. Assumes nothing.
+use Rattle.std.specs.Prelude.{ℕ, List, [], ◌∷◌, ◌++◌, Option, Some, None, if◌then◌else◌, nat_lt}
 
--- to a, if that is a node, and then to b, if that is one
-abbrev pub row_edges : ℕ → ℕ → ℕ → List ℕ
-row_edges n a b = cond (nat_lt a n) (a ∷ cond (nat_lt b n) (b ∷ []) []) []
+-- the edge of a place, if that leads to one of n nodes
+abbrev pub place_edge : ℕ → Option ℕ → List ℕ
+place_edge n None = []
+place_edge n (Some y) = if nat_lt y n then y ∷ [] else []
+
+-- the edges of a row, in its order
+abbrev pub row_edges : ℕ → Option ℕ × Option ℕ → List ℕ
+row_edges n row = place_edge n row.0 ++ place_edge n row.1

@@ -1,11 +1,10 @@
 -- What stands of a walk at every time, and what a move does to it. Assumes nothing.
-use Rattle.std.specs.Prelude.{◌≡◌, ℕ, suc, ◌+◌, ◌-◌, ◌*◌, ◌<◌, ◌≤◌, ◌⊎◌, List, ◌∷◌, length, Some, None, Ok, Err, Option, Result, slice_index, slice_set}
-use Rattle.std.proofs.Math.Decide.{ℕ_discrete}
+use Rattle.std.specs.Prelude.{◌≡◌, ℕ, ◌<◌, ◌≤◌, ◌⊎◌, Bool, true, false, List, length, Some, Ok, Err, Result, slice_index_or, count_by}
 use Rattle.std.specs.List.{slice_get}
-use Rattle.theory.specs.Counts.{count_below}
-use Rattle.theory.specs.Walks.{In, Route, DoneInOrder, Stack, bottom, frame, nodes, Walking}
-use Rattle.walk.specs.declared.state.Walk.{Walk}
-use Rattle.walk.specs.Views.{done_of, stack_of}
+use Rattle.theory.specs.Walks.{In, Route, DoneInOrder, Stack, bottom, frame, Walking, walk_measure}
+use Rattle.walk.specs.declared.state.Color.{Color}
+use Rattle.walk.specs.declared.state.Color.TheVariants.{Untouched, OnStack, Done}
+use Rattle.walk.specs.Progress.{Progress, stack_of, on_stack}
 
 -- A graph that a walk has room for: few nodes with few edges, and no edge leads out of it.
 pub record Small (edges : ℕ → List ℕ) (n : ℕ) : Type 0 where
@@ -18,98 +17,67 @@ abbrev pub Once : List ℕ → Type 0
 Once xs = (k l u : ℕ) → slice_get xs k ≡ Some u → slice_get xs l ≡ Some u → k ≡ l
 
 -- What the color of the node x says.
-pub data Colored (done : List ℕ) (stack : Stack) (x : ℕ) : ℕ → Type 0 where
-  untouched : (In x done → ⊥) → (In x (nodes stack) → ⊥) → Colored done stack x 0
-  on_stack : In x (nodes stack) → (In x done → ⊥) → Colored done stack x 1
-  is_done : In x done → (In x (nodes stack) → ⊥) → Colored done stack x 2
+abbrev pub Colored : Progress → ℕ → Color → Type 0
+Colored p x Untouched = (In x p.done → ⊥) × (In x (on_stack p) → ⊥)
+Colored p x OnStack = In x (on_stack p) × (In x p.done → ⊥)
+Colored p x Done = In x p.done × (In x (on_stack p) → ⊥)
 
--- The invariant of the walk, over what it is done with and where it is.
-pub record Standing (edges : ℕ → List ℕ) (n : ℕ) (colors done : List ℕ) (stack : Stack) : Type 0 where
-  pub in_order : DoneInOrder edges done
-  pub walking : Walking edges done stack
-  pub painted : (x : ℕ) → Colored done stack x (slice_index colors x)
-  pub done_once : Once done
-  pub stack_once : Once (nodes stack)
-  pub done_below : (x : ℕ) → In x done → x < n
-  pub stack_below : (x : ℕ) → In x (nodes stack) → x < n
-
-abbrev pub Stands : (ℕ → List ℕ) → ℕ → Walk → Type 0
-Stands edges n w = Standing edges n w.colors (done_of w) (stack_of w)
+-- The invariant of the walk.
+pub record Stands (edges : ℕ → List ℕ) (n : ℕ) (p : Progress) : Type 0 where
+  pub in_order : DoneInOrder edges p.done
+  pub walking : Walking edges p.done (stack_of p)
+  pub painted : (x : ℕ) → Colored p x (slice_index_or p.colors x Untouched)
+  pub done_once : Once p.done
+  pub stack_once : Once (on_stack p)
+  pub done_below : (x : ℕ) → In x p.done → x < n
+  pub stack_below : (x : ℕ) → In x (on_stack p) → x < n
 
 -- The node x is done or on the stack.
-abbrev pub Touched : List ℕ → Stack → ℕ → Type 0
-Touched done stack x = In x (nodes stack) ⊎ In x done
+abbrev pub Touched : Progress → ℕ → Type 0
+Touched p x = In x (on_stack p) ⊎ In x p.done
 
 -- Edges lead to x from some node of the stack.
-pub record Reached (edges : ℕ → List ℕ) (stack : Stack) (x : ℕ) : Type 0 where
+pub record Reached (edges : ℕ → List ℕ) (p : Progress) (x : ℕ) : Type 0 where
   pub from_node : ℕ
-  pub on_stack : In from_node (nodes stack)
+  pub stacked : In from_node (on_stack p)
   pub route : Route edges from_node x
 
--- The walk has gone on from w to w': whatever it was done with it still is, whatever was on the stack still is or is done, and to whatever it
+-- The walk has gone on from p to p': whatever it was done with it still is, whatever was on the stack still is or is done, and to whatever it
 -- has touched since edges lead from the stack.
-pub record Onward (edges : ℕ → List ℕ) (n : ℕ) (w w' : Walk) : Type 0 where
-  pub stands : Stands edges n w'
-  pub keeps_done : (x : ℕ) → In x (done_of w) → In x (done_of w')
-  pub keeps_stack : (x : ℕ) → In x (nodes (stack_of w)) → Touched (done_of w') (stack_of w') x
-  pub no_more : (x : ℕ) → Touched (done_of w') (stack_of w') x → Touched (done_of w) (stack_of w) x ⊎ Reached edges (stack_of w) x
+pub record Onward (edges : ℕ → List ℕ) (n : ℕ) (p p' : Progress) : Type 0 where
+  pub stands : Stands edges n p'
+  pub keeps_done : (x : ℕ) → In x p.done → In x p'.done
+  pub keeps_stack : (x : ℕ) → In x (on_stack p) → Touched p' x
+  pub no_more : (x : ℕ) → Touched p' x → Touched p x ⊎ Reached edges p x
 
 -- The walk from an empty stack has touched no node but the start and those that edges lead to from there.
-abbrev pub OnlyFrom : (ℕ → List ℕ) → ℕ → Walk → Walk → Type 0
-OnlyFrom edges start w w' = (x : ℕ) → Touched (done_of w') (stack_of w') x → In x (done_of w) ⊎ ((x ≡ start) ⊎ Route edges start x)
+abbrev pub OnlyFrom : (ℕ → List ℕ) → ℕ → Progress → Progress → Type 0
+OnlyFrom edges start p p' = (x : ℕ) → Touched p' x → In x p.done ⊎ ((x ≡ start) ⊎ Route edges start x)
 
 -- The walk has come round: the edge that its top node is at leads to y, which is on the stack.
-pub record ComesRound (edges : ℕ → List ℕ) (w : Walk) (y : ℕ) : Type 0 where
+pub record ComesRound (edges : ℕ → List ℕ) (p : Progress) (y : ℕ) : Type 0 where
   pub node : ℕ
   pub edge : ℕ
   pub below : Stack
-  pub top : stack_of w ≡ frame node edge below
+  pub top : stack_of p ≡ frame node edge below
   pub leads : slice_get (edges node) edge ≡ Some y
-  pub round : In y (nodes (stack_of w))
+  pub round : In y (on_stack p)
 
 -- How a walk ends: nothing is on the stack, or it has come round.
-abbrev pub Ended : (ℕ → List ℕ) → Walk → Result (Unit {0}) ℕ → Type 0
-Ended edges w (Ok u) = stack_of w ≡ bottom
-Ended edges w (Err y) = ComesRound edges w y
+abbrev pub Ended : (ℕ → List ℕ) → Progress → Result (Unit {0}) ℕ → Type 0
+Ended edges p (Ok u) = stack_of p ≡ bottom
+Ended edges p (Err y) = ComesRound edges p y
 
--- A new frame is on the stack.
-pub record Pushed (y : ℕ) (w w' : Walk) : Type 0 where
-  pub frames : stack_of w' ≡ frame y 0 (stack_of w)
-  pub same_done : done_of w' ≡ done_of w
-  pub color : w'.colors ≡ slice_set w.colors y 1
-
--- The top node is at its next edge.
-pub record Advanced (w w' : Walk) : Type 0 where
-  pub node : ℕ
-  pub edge : ℕ
-  pub below : Stack
-  pub was : stack_of w ≡ frame node edge below
-  pub frames : stack_of w' ≡ frame node (suc edge) below
-  pub same_done : done_of w' ≡ done_of w
-  pub same_colors : w'.colors ≡ w.colors
-
--- The top node is done.
-pub record Popped (w w' : Walk) : Type 0 where
-  pub node : ℕ
-  pub edge : ℕ
-  pub was : stack_of w ≡ frame node edge (stack_of w')
-  pub one_done : done_of w' ≡ node ∷ done_of w
-  pub color : w'.colors ≡ slice_set w.colors node 2
-
--- how many nodes are untouched
-abbrev pub untouched_count : List ℕ → ℕ
-untouched_count colors = count_below (λ i. ℕ_discrete (slice_index colors i) 0) 2048
-
--- the edges that the nodes on the stack have at most to look at, and one for each node
-abbrev pub edges_left : Stack → ℕ
-edges_left bottom = 0
-edges_left (frame x k below) = 1 + (9 - k) + edges_left below
+abbrev pub is_untouched : Color → Bool
+is_untouched Untouched = true
+is_untouched OnStack = false
+is_untouched Done = false
 
 -- how much is left to do: it falls with each move
-abbrev pub left : Walk → ℕ
-left w = 11 * untouched_count w.colors + edges_left (stack_of w)
+abbrev pub left : Progress → ℕ
+left p = walk_measure 9 (count_by is_untouched p.colors) (stack_of p)
 
 -- What a move comes to: less is left to do, or the walk has come round.
-abbrev pub Moved : (ℕ → List ℕ) → Walk → Option ℕ → Walk → Type 0
-Moved edges w None w' = left w' < left w
-Moved edges w (Some y) w' = ComesRound edges w' y
+abbrev pub Moved : (ℕ → List ℕ) → Progress → Progress → Result (Unit {0}) ℕ → Type 0
+Moved edges p p' (Ok u) = left p' < left p
+Moved edges p p' (Err y) = ComesRound edges p' y

@@ -1,8 +1,7 @@
+//! A depth-first walk over a graph of at most 2,048 nodes, with a stack of its own.
 #![tactic(auto)]
 
 pub mod graph;
-pub mod moves;
-pub mod reads;
 pub mod state;
 #[cfg(test)]
 mod tests;

@@ -1,9 +1,0 @@
--- The walk has gone on from where it began, and less is left to do.
-use Rattle.walk.specs.Stands.{Onward, left}
-use Rattle.walk.proofs.state.Walk.run.Given as goal
-
-abbrev pub invariant-loop-self : goal.invariant-loop-self
-invariant-loop-self g l = Onward (g.G.Graph.edges l.graph) (g.G.Graph.size l.graph) l.initial.self l.self
-
-abbrev pub decreases-loop-self : goal.decreases-loop-self
-decreases-loop-self g l = left l.self
