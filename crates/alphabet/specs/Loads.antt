@@ -1,14 +1,29 @@
 -- The alphabet of loads: families 1 tote, 2 carton, 3 pallet, 4 cage and 5 kit, each with sixteen carriers' marks.
-use Rattle.std.specs.Prelude.{ℕ, ◌*◌, ◌/◌, Bool, cond, ◌&&◌, ◌||◌, ◌==◌, nat_le}
+use Rattle.std.specs.Prelude.{◌≡◌, ℕ, ◌*◌, ◌/◌, Bool, false, cond, ◌&&◌, ◌||◌, ◌==◌, nat_le, Some, None, Option}
+use Rattle.alphabet.specs.declared.loads.Family.{Family}
+use Rattle.alphabet.specs.declared.loads.Family.TheVariants.{Tote, Carton, Pallet, Cage, Kit}
 use Rattle.theory.specs.Meaning.{Meaning, flat}
 
 -- the low 4 bits of a code are a carrier's mark, the rest is the family
 abbrev pub family : ℕ → ℕ
 family c = c / 16
 
+-- the number of a family
+abbrev pub number_of : Family → ℕ
+number_of Tote = 1
+number_of Carton = 2
+number_of Pallet = 3
+number_of Cage = 4
+number_of Kit = 5
+
 -- the five families
 abbrev pub known : ℕ → Bool
 known c = nat_le 1 (family c) && nat_le (family c) 5
+
+-- the family of a code, or that it has none of the five
+abbrev pub HasFamily : ℕ → Option Family → Type 0
+HasFamily c (Some f) = family c ≡ number_of f
+HasFamily c None = known c ≡ false
 
 -- the plain code has mark 0
 abbrev pub plain : ℕ → ℕ

@@ -1,5 +1,7 @@
 -- The alphabet of types: 0 number, 1 bool, 2 string, 3 undefined, 4 Pair, 5 List, 6 Array, 16 + n a function of n parameters, n from 0 to 8.
-use Rattle.std.specs.Prelude.{ℕ, ◌+◌, ◌-◌, Bool, cond, ◌&&◌, ◌||◌, ◌==◌, nat_le}
+use Rattle.std.specs.Prelude.{◌≡◌, ℕ, ◌+◌, ◌-◌, Bool, true, false, cond, ◌&&◌, ◌||◌, ◌==◌, nat_le, Some, None, Option}
+use Rattle.alphabet.specs.declared.types.Symbol.{Symbol}
+use Rattle.alphabet.specs.declared.types.Symbol.TheVariants.{Number, Bool as Truth, Text, Undefined, Pair, List, Array, Function}
 use Rattle.theory.specs.Meaning.{Meaning, layered_by}
 
 -- the code is that of a function of up to 8 parameters
@@ -9,6 +11,22 @@ function c = nat_le 16 c && nat_le c 24
 -- 0 to 6, and the functions
 abbrev pub known : ℕ → Bool
 known c = nat_le c 6 || function c
+
+-- the code of a symbol
+abbrev pub code_of : Symbol → ℕ
+code_of Number = 0
+code_of Truth = 1
+code_of Text = 2
+code_of Undefined = 3
+code_of Pair = 4
+code_of List = 5
+code_of Array = 6
+code_of (Function parameters) = 16 + parameters
+
+-- the symbol of a code, or that it is the code of none
+abbrev pub HasSymbol : ℕ → Option Symbol → Type 0
+HasSymbol c (Some s) = (c ≡ code_of s) × (known c ≡ true)
+HasSymbol c None = known c ≡ false
 
 -- Pair has two places, List and Array one; a function has one for each parameter and, last, one for its result
 abbrev pub places : ℕ → ℕ

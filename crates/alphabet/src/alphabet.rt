@@ -1,5 +1,5 @@
 ghost use Rattle.std.specs.Prelude.{◌≡◌};
-ghost use Rattle.theory.specs.Meaning.{Meaning, PlainKnown, PlainPlain, PlainPlaces, PlainClasses, FewPlaces, SmallCodes, EightClasses, OtherPlain, OtherPlaces, OtherClasses, HasLeaf, Layered, Chosen};
+ghost use Rattle.theory.specs.Meaning.{Meaning, Lawful, Chosen};
 ghost use Rattle.alphabet.specs.Named.{named};
 
 use crate::layering::Layering;
@@ -8,7 +8,7 @@ use crate::layering::Layering;
 ///
 /// What it means is fixed: which codes are known, the plain code of each, its number of places, the classes that
 /// admit it, and the layering. It is asked for each part, and answers by its meaning. No question is refused or
-/// changes the meaning.
+/// changes the meaning. Codes and sets are plain numbers, since alphabets of others answer the same six questions.
 pub trait Alphabet {
     ghost meaning: { Self → Meaning };
 
@@ -37,27 +37,6 @@ pub trait Alphabet {
     fn some(&self, set: u8) -> Option<u32>
         ensures { Chosen (meaning self.now) set result };
 
-    ghost plain_known: { (s : Self) → PlainKnown (meaning s) };
-
-    ghost plain_plain: { (s : Self) → PlainPlain (meaning s) };
-
-    ghost plain_places: { (s : Self) → PlainPlaces (meaning s) };
-
-    ghost plain_classes: { (s : Self) → PlainClasses (meaning s) };
-
-    ghost few_places: { (s : Self) → FewPlaces (meaning s) };
-
-    ghost small_codes: { (s : Self) → SmallCodes (meaning s) };
-
-    ghost eight_classes: { (s : Self) → EightClasses (meaning s) };
-
-    ghost other_plain: { (s : Self) → OtherPlain (meaning s) };
-
-    ghost other_places: { (s : Self) → OtherPlaces (meaning s) };
-
-    ghost other_classes: { (s : Self) → OtherClasses (meaning s) };
-
-    ghost has_leaf: { (s : Self) → HasLeaf (meaning s) };
-
-    ghost layered: { (s : Self) → Layered (meaning s) };
+    // What each alphabet must keep, whatever it means.
+    ghost lawful: { (s : Self) → Lawful (meaning s) };
 }

@@ -1,4 +1,4 @@
-// Alphabets: which symbols there are. The trait, and the alphabets of types and of loads.
+//! Alphabets: which symbols there are. The trait, and the alphabets of types and of loads.
 #![tactic(auto)]
 
 pub mod alphabet;

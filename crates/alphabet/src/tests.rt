@@ -1,7 +1,7 @@
 use crate::alphabet::Alphabet;
 use crate::layering::Layering;
-use crate::loads::Loads;
-use crate::types::Types;
+use crate::loads::{Family, Loads, family_of};
+use crate::types::{Symbol, Types, symbol_of};
 use std::process::Abort;
 
 // The codes that a row speaks of, and what an alphabet answers about each of them. The plain code is `plain`, or the
@@ -218,4 +218,16 @@ fn some_for_each_set(rt: HostRuntime) {
         assert_eq!(rt; Types.some(set), type_code);
         assert_eq!(rt; Loads.some(set), load_code);
     }
+}
+
+#[test]
+fn symbols_and_families(rt: HostRuntime) {
+    assert_eq!(rt; symbol_of(0), Some(Symbol::Number));
+    assert_eq!(rt; symbol_of(6), Some(Symbol::Array));
+    assert_eq!(rt; symbol_of(7), None);
+    assert_eq!(rt; symbol_of(24), Some(Symbol::Function { parameters: 8 }));
+    assert_eq!(rt; family_of(15), None);
+    assert_eq!(rt; family_of(31), Some(Family::Tote));
+    assert_eq!(rt; family_of(95), Some(Family::Kit));
+    assert_eq!(rt; family_of(96), None);
 }

@@ -1,6 +1,6 @@
 ghost use Rattle.std.specs.Prelude.{◌≡◌, refl};
 ghost use Rattle.theory.specs.Meaning.{Chosen, Lowest};
-ghost use Rattle.alphabet.specs.Types.{types};
+ghost use Rattle.alphabet.specs.Types.{types, HasSymbol};
 ghost use Rattle.std.proofs.Common.{rules};
 
 use crate::alphabet::Alphabet;
@@ -10,36 +10,59 @@ use crate::layering::Layering;
 #[derive(Clone, Copy, Debug, PartialEq, Eq)]
 pub struct Types;
 
+/// The symbols of types.
+#[derive(Clone, Copy, Debug, PartialEq, Eq)]
+pub enum Symbol {
+    Number,
+    Bool,
+    Text,
+    Undefined,
+    Pair,
+    List,
+    Array,
+    Function { parameters: u32 },
+}
+
+/// The symbol of a code, if it has one.
+pub fn symbol_of(code: u32) -> Option<Symbol>
+    ensures { HasSymbol code result }
+{
+    match code {
+        0 => Some(Symbol::Number),
+        1 => Some(Symbol::Bool),
+        2 => Some(Symbol::Text),
+        3 => Some(Symbol::Undefined),
+        4 => Some(Symbol::Pair),
+        5 => Some(Symbol::List),
+        6 => Some(Symbol::Array),
+        16..=24 => Some(Symbol::Function {
+            parameters: code - 16,
+        }),
+        _ => None,
+    }
+}
+
 impl Alphabet for Types {
     ghost meaning = { λ _. types };
 
-    ghost plain_known = { Prim.search rules };
-
-    ghost plain_plain = { Prim.search rules };
-
-    ghost plain_places = { Prim.search rules };
-
-    ghost plain_classes = { Prim.search rules };
-
-    ghost few_places = { Prim.search rules };
-
-    ghost small_codes = { Prim.search rules };
-
-    ghost eight_classes = { Prim.search rules };
-
-    ghost other_plain = { Prim.search rules };
-
-    ghost other_places = { Prim.search rules };
-
-    ghost other_classes = { Prim.search rules };
-
-    // a number has no places
-    ghost has_leaf = { λ s. (0, record { is_known = refl; is_plain = refl; bare = refl }) };
-
-    ghost layered = { Prim.search rules };
+    // the leaf is a number, code 0
+    ghost lawful = { λ _. record {
+      plain_known = Prim.search rules;
+      plain_plain = Prim.search rules;
+      plain_places = Prim.search rules;
+      plain_classes = Prim.search rules;
+      few_places = Prim.search rules;
+      small_codes = Prim.search rules;
+      eight_classes = Prim.search rules;
+      other_plain = Prim.search rules;
+      other_places = Prim.search rules;
+      other_classes = Prim.search rules;
+      has_leaf = (0, record { is_known = refl; is_plain = refl; bare = refl });
+      layered = Prim.search rules;
+    } };
 
     fn known(&self, code: u32) -> bool {
-        matches!(code, 0..=6 | 16..=24)
+        symbol_of(code).is_some()
     }
 
     fn plain(&self, code: u32) -> u32 {
@@ -47,17 +70,17 @@ impl Alphabet for Types {
     }
 
     fn places(&self, code: u32) -> u32 {
-        match code {
-            4 => 2,
-            5 | 6 => 1,
-            16..=24 => code - 15,
+        match symbol_of(code) {
+            Some(Symbol::Pair) => 2,
+            Some(Symbol::List | Symbol::Array) => 1,
+            Some(Symbol::Function { parameters }) => parameters + 1,
             _ => 0,
         }
     }
 
     fn classes(&self, code: u32) -> u8 {
-        match code {
-            0 | 2 => 0x01,
+        match symbol_of(code) {
+            Some(Symbol::Number | Symbol::Text) => 0x01,
             _ => 0x00,
         }
     }

@@ -12,31 +12,20 @@ pub enum Command<'a> {
 }
 
 /// How the program is called.
-pub fn usage() -> &'static str {
-    "usage:
+pub const USAGE: &str = "usage:
   checker plan [--alphabet loads|types] FILE        lists the items of a line plan
   checker judge [--alphabet loads|types] FILE...    does the same for each file, and ends with status 0
   checker help                                      prints this text
 
 FILE is a text of 32-bit words, in decimal or in hexadecimal after 0x, with white space between; # begins a comment
 that runs to the end of the line. - is the standard input. The alphabet is that of loads where none is named.
-Status: 0 where all is in order, 1 where something was sent back."
-}
-
-fn names_of(word: &str) -> Option<Names> {
-    match word {
-        "loads" => Some(Names::Loads),
-        "types" => Some(Names::Types),
-        _ => None,
-    }
-}
+Status: 0 where all is in order, 1 where something was sent back.";
 
 // The alphabet that the options name, and the words behind them.
 fn options_of(words: &[String]) -> Option<(Names, &[String])> {
     match words {
         [option, alphabet, rest @ ..] if option.as_str() == "--alphabet" => {
-            let names = names_of(alphabet.as_str())?;
-            Some((names, rest))
+            Some((alphabet.parse().ok()?, rest))
         }
         _ => Some((Names::Loads, words)),
     }
@@ -48,24 +37,17 @@ pub fn command_of(words: &[String]) -> Option<Command<'_>> {
         return None;
     };
     match verb.as_str() {
-        "plan" => {
-            let (names, files) = options_of(rest)?;
-            match files {
-                [file] => Some(Command::Plan {
-                    names,
-                    file: file.as_str(),
-                }),
-                _ => None,
-            }
-        }
-        "judge" => {
-            let (names, files) = options_of(rest)?;
-            if files.is_empty() {
-                None
-            } else {
-                Some(Command::Judge { names, files })
-            }
-        }
+        "plan" => match options_of(rest)? {
+            (names, [file]) => Some(Command::Plan {
+                names,
+                file: file.as_str(),
+            }),
+            _ => None,
+        },
+        "judge" => match options_of(rest)? {
+            (_, []) => None,
+            (names, files) => Some(Command::Judge { names, files }),
+        },
         "help" | "--help" | "-h" => Some(Command::Help),
         _ => None,
     }

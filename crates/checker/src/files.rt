@@ -1,7 +1,7 @@
 //! Files of words.
+use crate::error::PlanError;
 use anyhow::anyhow;
-use report::tokens::unreadable_sentence;
-use std::alloc::Global;
+use report::tokens::UnreadableSentence;
 use std::io::Read;
 use std::{fs, io};
 use words::{TextError, words_of};
@@ -16,22 +16,15 @@ fn bytes_of(rt: &HostRuntime, file: &str) -> io::Result<Vec<u8>> {
     Ok(bytes)
 }
 
-fn words_in(heap: Global, bytes: &[u8]) -> anyhow::Result<Result<Vec<u32>, String>> {
-    match words_of(heap, bytes) {
-        Ok(words) => Ok(Ok(words)),
-        Err(TextError::Unreadable(fault)) => Ok(Err(unreadable_sentence(
-            heap,
-            fault.line,
-            fault.token,
-        )?)),
-        Err(TextError::Memory) => Err(anyhow!("out of memory")),
-    }
-}
-
-/// The words of the file, or a sentence that says why there are none.
-pub fn read_words(rt: &HostRuntime, file: &str) -> anyhow::Result<Result<Vec<u32>, String>> {
-    match bytes_of(rt, file) {
-        Ok(bytes) => words_in(rt.alloc(), &bytes),
-        Err(error) => Ok(Err(format!(in rt.alloc(); "cannot be read: {error}")?)),
-    }
+/// The words of the file.
+pub(crate) fn read_words(rt: &HostRuntime, file: &str) -> Result<Vec<u32>, PlanError> {
+    let heap = rt.alloc();
+    let bytes = bytes_of(rt, file).map_err(|error| PlanError::sent_back(
+        heap,
+        format_args!("cannot be read: {error}"),
+    ))?;
+    words_of(heap, &bytes).map_err(|error| match error {
+        TextError::Unreadable(token) => PlanError::sent_back(heap, UnreadableSentence(token)),
+        TextError::Memory => PlanError::Failed(anyhow!("out of memory")),
+    })
 }

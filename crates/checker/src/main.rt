@@ -2,44 +2,35 @@
 #![tactic(auto)]
 
 mod command;
+mod error;
 mod files;
 mod plans;
 
-use command::{Command, command_of, usage};
+use command::{Command, USAGE, command_of};
 use std::env;
 use std::process::ExitCode;
 
-/// How a run of the program ended, once it has said all that there is to say.
-pub enum Ending {
-    /// Everything was in order.
-    Fine,
-    /// Something was sent back, and the standard error says what.
-    SentBack,
-}
-
-fn run(rt: &HostRuntime) -> anyhow::Result<Ending> {
-    let mut words = Vec::new(rt.alloc());
-    for word in env::args(rt)?.skip(1) {
-        words.push(word)?;
-    }
+// Does what the words after the program's name ask for, and answers its status.
+fn run(rt: &HostRuntime) -> anyhow::Result<ExitCode> {
+    let words: Vec<String> = env::args(rt)?.skip(1).collect(rt.alloc())?;
     match command_of(&words) {
         Some(Command::Plan { names, file }) => plans::list(rt, names, file),
         Some(Command::Judge { names, files }) => plans::judge(rt, names, files),
         Some(Command::Help) => {
-            println!(rt; "{}", usage())?;
-            Ok(Ending::Fine)
+            println!(rt; "{USAGE}")?;
+            Ok(ExitCode::SUCCESS)
         }
         None => {
-            eprintln!(rt; "{}", usage())?;
-            Ok(Ending::SentBack)
+            eprintln!(rt; "{USAGE}")?;
+            Ok(ExitCode::FAILURE)
         }
     }
 }
 
+// An `Err` of `main` itself would be printed by the runtime, in words that are not the program's.
 fn main(rt: HostRuntime) -> ExitCode {
     match run(&rt) {
-        Ok(Ending::Fine) => ExitCode::SUCCESS,
-        Ok(Ending::SentBack) => ExitCode::FAILURE,
+        Ok(status) => status,
         Err(error) => {
             let _ = eprintln!(rt; "checker: {error}");
             ExitCode::FAILURE

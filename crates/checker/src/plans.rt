@@ -1,105 +1,103 @@
 //! What the program does with plans.
-use crate::Ending;
+use crate::error::PlanError;
 use crate::files::read_words;
 use alphabet::alphabet::Alphabet;
 use alphabet::loads::Loads;
 use alphabet::types::Types;
-use plan::item::Item;
 use plan::reader::Reader;
 use plan::tally::{Tally, count_items};
-use report::counts::counts;
-use report::items::item_line;
+use report::counts::PlanCounts;
+use report::items::ItemLine;
 use report::names::Names;
-use report::refusals::refusal_sentence;
+use report::refusals::RefusalSentence;
+use std::io;
+use std::process::ExitCode;
 
-/// What there is to say of a plan in the end.
-pub enum Verdict {
-    /// How many items, cells and words it has.
-    Read(String),
-    /// What sends it back.
-    Refused(String),
+/// An alphabet with the names that are printed for it.
+trait Printed: Alphabet {
+    const NAMES: Names;
 }
 
-// Prints an item and counts it.
-fn print_item(
-    rt: &HostRuntime,
-    names: Names,
-    position: usize,
-    tally: Tally,
-    item: &Item,
-) -> anyhow::Result<Tally> {
-    let line = item_line(rt.alloc(), names, position, tally.cells, item)?;
-    println!(rt; "{line}")?;
-    Ok(tally.and(item))
+impl Printed for Loads {
+    const NAMES: Names = Names::Loads;
+}
+
+impl Printed for Types {
+    const NAMES: Names = Names::Types;
 }
 
 // Prints the items of the plan, up to the end or to the first that is refused.
-fn print_items<A: Alphabet>(
-    rt: &HostRuntime,
-    alphabet: &A,
-    names: Names,
-    words: &[u32],
-) -> anyhow::Result<()> {
+fn print_items<A: Printed>(rt: &HostRuntime, alphabet: &A, words: &[u32]) -> io::Result<()> {
     let Ok(mut reader) = Reader::open(words) else {
         return Ok(());
     };
     let mut tally = Tally { items: 0, cells: 0 };
-    for _ in 0..=words.len() {
-        let position = reader.position();
-        let Ok(Some(item)) = reader.next(alphabet) else {
-            break;
+    let mut position = 0;
+    while let Ok(Some(item)) = reader.next(alphabet) {
+        let line = ItemLine {
+            names: A::NAMES,
+            position,
+            cell: tally.cells,
+            item: &item,
         };
-        tally = print_item(rt, names, position, tally, &item)?;
+        println!(rt; "{line}")?;
+        tally = tally.and(&item);
+        position = reader.position();
     }
     Ok(())
 }
 
-fn print_plan<A: Alphabet>(
+// Prints the items of the plan and counts them, or says what sends the plan back. The verdict is that of `count_items`,
+// whose contract fixes it; so printing passes over what is refused.
+fn print_plan<A: Printed>(
     rt: &HostRuntime,
     alphabet: &A,
-    names: Names,
     words: &[u32],
-) -> anyhow::Result<Verdict> {
-    print_items(rt, alphabet, names, words)?;
-    match count_items(alphabet, words) {
-        Ok(tally) => Ok(Verdict::Read(counts(rt.alloc(), tally.items, tally.cells, words.len())?)),
-        Err(fault) => Ok(Verdict::Refused(refusal_sentence(rt.alloc(), fault, words)?)),
-    }
+) -> Result<PlanCounts, PlanError> {
+    print_items(rt, alphabet, words)?;
+    let tally = count_items(alphabet, words).map_err(|fault| PlanError::sent_back(
+        rt.alloc(),
+        RefusalSentence { fault, words },
+    ))?;
+    Ok(PlanCounts {
+        tally,
+        words: words.len(),
+    })
 }
 
-// Prints the items of the plan in the file.
-fn print_file(rt: &HostRuntime, names: Names, file: &str) -> anyhow::Result<Verdict> {
-    let words = match read_words(rt, file)? {
-        Ok(words) => words,
-        Err(sentence) => return Ok(Verdict::Refused(sentence)),
-    };
+// The same for the plan in the file.
+fn print_file(rt: &HostRuntime, names: Names, file: &str) -> Result<PlanCounts, PlanError> {
+    let words = read_words(rt, file)?;
     match names {
-        Names::Loads => print_plan(rt, &Loads, names, &words),
-        Names::Types => print_plan(rt, &Types, names, &words),
+        Names::Loads => print_plan(rt, &Loads, &words),
+        Names::Types => print_plan(rt, &Types, &words),
     }
 }
 
 /// Prints a line for each item of the plan and then how many there are, or what sends the plan back.
-pub fn list(rt: &HostRuntime, names: Names, file: &str) -> anyhow::Result<Ending> {
-    match print_file(rt, names, file)? {
-        Verdict::Read(count) => {
-            println!(rt; "{count}")?;
-            Ok(Ending::Fine)
+pub fn list(rt: &HostRuntime, names: Names, file: &str) -> anyhow::Result<ExitCode> {
+    match print_file(rt, names, file) {
+        Ok(counts) => {
+            println!(rt; "{counts}")?;
+            Ok(ExitCode::SUCCESS)
         }
-        Verdict::Refused(sentence) => {
+        Err(PlanError::SentBack(sentence)) => {
             eprintln!(rt; "checker: {file}: {sentence}")?;
-            Ok(Ending::SentBack)
+            Ok(ExitCode::FAILURE)
         }
+        Err(PlanError::Failed(error)) => Err(error),
     }
 }
 
 /// Prints the same for each plan, under the name of its file.
-pub fn judge(rt: &HostRuntime, names: Names, files: &[String]) -> anyhow::Result<Ending> {
+pub fn judge(rt: &HostRuntime, names: Names, files: &[String]) -> anyhow::Result<ExitCode> {
     for file in files {
         println!(rt; "{file}:")?;
-        match print_file(rt, names, file.as_str())? {
-            Verdict::Read(sentence) | Verdict::Refused(sentence) => println!(rt; "{sentence}")?,
+        match print_file(rt, names, file.as_str()) {
+            Ok(counts) => println!(rt; "{counts}")?,
+            Err(PlanError::SentBack(sentence)) => println!(rt; "{sentence}")?,
+            Err(PlanError::Failed(error)) => return Err(error),
         }
     }
-    Ok(Ending::Fine)
+    Ok(ExitCode::SUCCESS)
 }

@@ -1,4 +1,4 @@
-// Theorems about feed. Each function carries one in its contract, and does nothing else.
+//! Theorems about feed. Each function carries one in its contract, and does nothing else.
 ghost use Rattle.feed.specs.Answering.{FeedHasOneAnswer};
 ghost use Rattle.feed.specs.Judging.{PlansAreJudged};
 

@@ -44,6 +44,10 @@ returned m words items next (read_on {items = before} {position = position} {i =
 pub gives_back : GivesBack
 gives_back m words items position r = (returned m words items position r).back
 
+-- no words are left where the plan ends
+pub none_left : (m : Meaning) (left : List ℕ) → Begins m left ended → left ≡ []
+none_left m left at_end = refl
+
 whole_at_end : (words : List ℕ) (items : List Item) (position : ℕ) → Returned words items position → drop position words ≡ [] → all_written items ≡ words
 whole_at_end words items position r e = r.back ∙ take_all position words (omega (arith, ap length e, length-drop position words))
 
@@ -54,7 +58,4 @@ goes_on m words position (refused f) next s items r =
     let n : next ≡ position = s.onward ∙ (omega arith) in record { read = rw n r; gives_back = rw n (gives_back m words items position r); whole = tt }
 goes_on m words position ended next s items r =
     let n : next ≡ position = s.onward ∙ (omega arith) in
-    record { read = rw n r; gives_back = rw n (gives_back m words items position r); whole = whole_at_end words items position (returned m words items position r) (none_left (drop position words) s.begins) }
-  where
-    none_left : (left : List ℕ) → Begins m left ended → left ≡ []
-    none_left left at_end = refl
+    record { read = rw n r; gives_back = rw n (gives_back m words items position r); whole = whole_at_end words items position (returned m words items position r) (none_left m (drop position words) s.begins) }

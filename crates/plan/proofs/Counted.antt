@@ -7,10 +7,10 @@ use Rattle.plan.specs.declared.refusal.Refusal.{Refusal}
 use Rattle.plan.specs.declared.refusal.Refusal.TheVariants.{TooLong, NotAnItem, NoSuchCode, CutShort}
 use Rattle.plan.specs.declared.tally.Tally.{Tally}
 use Rattle.plan.specs.Items.{Item, unknown, term, link, item_of, cells_made, cells_of}
-use Rattle.plan.specs.Reading.{most_words, refused, ended, Begins, at_end, Read, none_read, read_on}
+use Rattle.plan.specs.Reading.{most_words, refused, Begins, Read, none_read, read_on}
 use Rattle.plan.specs.Answers.{HandsOut}
 use Rattle.plan.specs.Tallies.{WholePlan, BrokenPlan, BrokenBy}
-use Rattle.plan.proofs.Back.{returned}
+use Rattle.plan.proofs.Back.{returned, none_left}
 
 -- the items up to the reader's position are counted
 pub record Counted (m : Meaning) (words held : List ℕ) (position : ℕ) (tally : Tally) : Type 0 where
@@ -39,9 +39,6 @@ one_cell (link left right) = omega arith
 few_cells : (items : List Item) → cells_of items ≤ length items
 few_cells [] = omega arith
 few_cells (i ∷ is) = let h = few_cells is in let o = one_cell i in omega arith
-
-none_left : (m : Meaning) (left : List ℕ) → Begins m left ended → left ≡ []
-none_left m left at_end = refl
 
 -- a sum that fits is not cut
 pub not_cut : (n sum : ℕ) → n ≡ min sum (2 ^ 64 - 1) → sum < 2 ^ 64 → n ≡ sum
@@ -101,13 +98,6 @@ module _ (m : Meaning) (words held : List ℕ) (position : ℕ) (tally : Tally) 
       let here : fault.position ≡ position = h.names in
       broken_by fault fault.refusal refl s.begins
       record { short = c.short; items = c.done; read = rw here c.read; stands = record { begins = rw here s.begins; onward = omega arith } }
-
-  -- an item moves the reader on
-  pub moves_on : (i : code.Item) (next : ℕ) → HandsOut m held position (Ok (Some i)) next → length words - next < length words - position
-  moves_on i next h =
-      let on : Counted m words held next record { items = tally.items + 1; cells = tally.cells + cells_made (item_of i) } = counted_on i next held record { items = tally.items + 1; cells = tally.cells + cells_made (item_of i) } refl h refl refl in
-      let b = (returned m words on.done next on.read).within in
-      let o = h.stands.onward in omega arith
 
 pub counted_none : (m : Meaning) (words held : List ℕ) (position : ℕ) → (length words ≤ most_words) × (held ≡ words) × (position ≡ 0) → Counted m words held position record { items = 0; cells = 0 }
 counted_none m words held position o = record { same = o.1; short = o.0; done = []; read = rw o.2 none_read; items_are = refl; cells_are = refl }

@@ -1,5 +1,6 @@
 -- What words begin with, by their first word and their length. Assumes nothing.
-use Rattle.std.proofs.Common.{◌≡◌, ℕ, ◌-◌, ◌^◌, ◌<◌, ◌≤◌, true, false, List, [], ◌∷◌, length, get_or, take, drop, refl, arith}
+use Rattle.std.proofs.Common.{◌≡◌, ℕ, ◌+◌, ◌-◌, ◌^◌, ◌<◌, ◌≤◌, true, false, List, [], ◌∷◌, length, get_or, take, drop, refl, arith}
+use Rattle.std.specs.List.{slice_range}
 use Rattle.theory.specs.Meaning.{Meaning}
 use Rattle.plan.specs.declared.refusal.Refusal.TheVariants.{NotAnItem, NoSuchCode, CutShort}
 use Rattle.plan.specs.Items.{unknown, term, link, first_word}
@@ -28,6 +29,13 @@ module _ (m : Meaning) where
       Begins m words (item (term code (take (m.places code) (drop 1 words))))
   term_front [] code h b k l = absurd (omega (arith, h.0))
   term_front (w ∷ rest) code h b k l = term_begins m w rest code b h.1 true k (no (λ s. omega arith))
+
+  -- the words behind the first, as many as the code has places
+  pub term_part : (words : List ℕ) (code count : ℕ) (places : List ℕ) → Headed (first_word 0x12 code) words → code < 2 ^ 24 → m.known code ≡ true → count ≡ m.places code →
+      1 + count ≤ length words → places ≡ slice_range words 1 (1 + count) → Begins m words (item (term code places))
+  term_part words code count places h b k n l e =
+      let one : 1 + count - 1 ≡ count = omega arith in
+      rw (e, one, n) (term_front words code h b k (omega arith))
 
   pub short_link_front : (words : List ℕ) → Headed (first_word 0x13 0) words → length words < 3 → Begins m words (refused CutShort)
   short_link_front [] h l = absurd (omega (arith, h.0))

@@ -4,3 +4,4 @@ pub mod Back
 pub mod Front
 pub mod Answered
 pub mod Counted
+mod MappedErrors

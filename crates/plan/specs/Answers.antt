@@ -1,5 +1,5 @@
 -- What the reader of a plan answers. Assumes nothing.
-use Rattle.std.specs.Prelude.{◌≡◌, ℕ, List, [], ◌∷◌, ◌++◌, take, Some, None, Ok, Err, Option, Result}
+use Rattle.std.specs.Prelude.{◌≡◌, ℕ, ◌<◌, ◌≤◌, List, [], ◌∷◌, ◌++◌, length, take, Some, None, Ok, Err, Option, Result}
 use Rattle.theory.specs.Meaning.{Meaning}
 use Rattle.plan.specs.declared.item.Item as code
 use Rattle.plan.specs.declared.refusal.PlanFault.{PlanFault}
@@ -41,3 +41,9 @@ pub record HandsOut (m : Meaning) (words : List ℕ) (position : ℕ) (answer : 
   pub names : Names answer position
   pub only : (other : Reading) (after : ℕ) → Stands m words position other after → (other ≡ reading_of answer) × (after ≡ next)
   pub goes_on : (items : List Item) → Read m words items position → GoesOn m words items (reading_of answer) next
+
+-- an item takes the reader onward, and not past the plan
+abbrev pub TakesOnward : List ℕ → (position : ℕ) → Result (Option code.Item) PlanFault → (next : ℕ) → Type 0
+TakesOnward words position (Ok (Some i)) next = (position < next) × (next ≤ length words)
+TakesOnward words position (Ok None) next = Unit {0}
+TakesOnward words position (Err f) next = Unit {0}

@@ -1,5 +1,5 @@
 /// An item of a plan. A cell is a numbered entry of a workspace; each unknown and each term of a plan makes one.
-#[derive(Clone, Copy, Debug)]
+#[derive(Clone, Copy, Debug, PartialEq, Eq)]
 pub enum Item<'a> {
     /// A cell whose type is not known yet, but for the classes that must admit it.
     Unknown { set: u8 },

@@ -1,4 +1,4 @@
-// Line plans: words that say which unknowns and terms there are, and which cells are linked.
+//! Line plans: words that say which unknowns and terms there are, and which cells are linked.
 #![tactic(auto)]
 
 mod head;

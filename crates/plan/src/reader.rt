@@ -2,8 +2,8 @@ ghost use Rattle.std.specs.Prelude.{◌≡◌, ◌^◌, ◌<◌, length};
 ghost use Rattle.theory.specs.Meaning.{Meaning};
 ghost use Rattle.plan.specs.Items.{first_word, written, item_of};
 ghost use Rattle.plan.specs.Openings.{Opens};
-ghost use Rattle.plan.specs.Answers.{HandsOut};
-ghost use Rattle.plan.specs.Steps.{Headed, Sees, Finds};
+ghost use Rattle.plan.specs.Answers.{HandsOut, TakesOnward};
+ghost use Rattle.plan.specs.Steps.{Headed, Finds};
 
 use crate::head::Head;
 use crate::item::Item;
@@ -20,26 +20,12 @@ pub struct Reader<'a> {
     position: usize,
 }
 
-fn head_of(word: u32) -> Option<Head>
-    ensures { Sees word result }
-{
-    match word {
-        0x1100_0000..=0x1100_00ff => Some(Head::Unknown((word - 0x1100_0000) as u8)),
-        0x1200_0000..=0x12ff_ffff => Some(Head::Term(word - 0x1200_0000)),
-        0x1300_0000 => Some(Head::Link),
-        _ => None,
-    }
-}
-
 // The item that begins at the front of the words.
 fn first_item<'a, A: Alphabet>(alphabet: &A, words: &'a [u32]) -> Result<Item<'a>, Refusal>
     requires { 0 < length words.now }
     ensures { Finds (A.meaning alphabet.now) words.now result }
 {
-    let Some(head) = head_of(words[0]) else {
-        return Err(Refusal::NotAnItem);
-    };
-    match head {
+    match Head::try_from(words[0])? {
         Head::Unknown(set) => Ok(Item::Unknown { set }),
         Head::Term(code) => term_after(alphabet, code, words),
         Head::Link => link_after(words),
@@ -58,14 +44,12 @@ fn term_after<'a, A: Alphabet>(
     if !alphabet.known(code) {
         return Err(Refusal::NoSuchCode(code));
     }
+    // `usize` has no `From<u32>`
     let count = alphabet.places(code) as usize;
-    if words.len() - 1 < count {
+    let Some(places) = words.get(1..1 + count) else {
         return Err(Refusal::CutShort);
-    }
-    Ok(Item::Term {
-        code,
-        places: &words[1..1 + count],
-    })
+    };
+    Ok(Item::Term { code, places })
 }
 
 // The link whose first word the words begin with.
@@ -73,13 +57,10 @@ fn link_after<'a>(words: &'a [u32]) -> Result<Item<'a>, Refusal>
     requires { Headed (first_word 0x13 0) words.now }
     ensures { (m : Meaning) → Finds m words.now result }
 {
-    if words.len() < 3 {
+    let [_, left, right, ..] = *words else {
         return Err(Refusal::CutShort);
-    }
-    Ok(Item::Link {
-        left: words[1],
-        right: words[2],
-    })
+    };
+    Ok(Item::Link { left, right })
 }
 
 // How many words the item is written in.
@@ -119,21 +100,21 @@ impl<'a> Reader<'a> {
     pub fn next<A: Alphabet>(&mut self, alphabet: &A) -> Result<Option<Item<'a>>, PlanFault>
         ensures same { self.new.words.now ≡ self.old.words.now }
         ensures hands_out { HandsOut (A.meaning alphabet.now) self.old.words.now self.old.position result self.new.position }
+        ensures onward { TakesOnward self.old.words.now self.old.position result self.new.position }
     {
         let words = self.words;
         let position = self.position;
         if position >= words.len() {
             return Ok(None);
         }
-        match first_item(alphabet, &words[position..]) {
-            Ok(item) => {
-                *self = Reader {
-                    words,
-                    position: position + span_of(&item),
-                };
-                Ok(Some(item))
-            }
-            Err(refusal) => Err(PlanFault { position, refusal }),
-        }
+        let item = first_item(alphabet, &words[position..]).map_err(|refusal| PlanFault {
+            position,
+            refusal,
+        })?;
+        *self = Reader {
+            words,
+            position: position + span_of(&item),
+        };
+        Ok(Some(item))
     }
 }

@@ -14,6 +14,7 @@ pub enum Refusal {
     CutShort,
 }
 
+// No `Display`: the sentence tells of the plan's words too, and stands in `report`.
 /// A refusal, and the position of the first word of the item that it names (0 for a plan that is too long).
 #[derive(Clone, Copy, Debug, PartialEq, Eq)]
 pub struct PlanFault {
@@ -21,6 +22,8 @@ pub struct PlanFault {
     pub refusal: Refusal,
 }
 
+// The numbers and values are those that plans and workspaces state outside the program. `workspace::fault::Fault` answers the
+// same two questions, with wider values; nothing takes either of them, so a trait over both would serve no one.
 impl Refusal {
     /// The number of the refusal.
     pub fn number(self) -> u32

@@ -10,13 +10,7 @@ use std::test::Fail;
 
 // The fault at which reading a plan stops, or the number of its items.
 fn read<A: Alphabet>(alphabet: &A, words: &[u32]) -> Result<usize, PlanFault> {
-    let mut reader = Reader::open(words)?;
-    for items in 0..=words.len() {
-        if reader.next(alphabet)?.is_none() {
-            return Ok(items);
-        }
-    }
-    Ok(words.len())
+    Ok(count_items(alphabet, words)?.items)
 }
 
 fn refused(position: usize, refusal: Refusal) -> Result<usize, PlanFault> {
@@ -44,24 +38,23 @@ fn items_of_a_plan(rt: HostRuntime) -> Result<(), Fail> {
         4,
         1,
     ];
+    let items = [
+        (1, Item::Unknown { set: 2 }),
+        (
+            5,
+            Item::Term {
+                code: 0x53,
+                places: &[7, 0, 0xffff_ffff],
+            },
+        ),
+        (8, Item::Link { left: 4, right: 1 }),
+    ];
     let mut reader = Reader::open(&words)?;
-    let Some(Item::Unknown { set }) = reader.next(&Loads)? else {
-        return Err(Fail::new("no unknown"));
-    };
-    assert_eq!(rt; set, 2);
-    assert_eq!(rt; reader.position(), 1);
-    let Some(Item::Term { code, places }) = reader.next(&Loads)? else {
-        return Err(Fail::new("no term"));
-    };
-    assert_eq!(rt; code, 0x53);
-    assert!(rt; places == [7, 0, 0xffff_ffff].as_slice());
-    assert_eq!(rt; reader.position(), 5);
-    let Some(Item::Link { left, right }) = reader.next(&Loads)? else {
-        return Err(Fail::new("no link"));
-    };
-    assert_eq!(rt; (left, right), (4, 1));
-    assert_eq!(rt; reader.position(), 8);
-    assert!(rt; reader.next(&Loads)?.is_none());
+    for (next, item) in items {
+        assert_eq!(rt; reader.next(&Loads)?, Some(item));
+        assert_eq!(rt; reader.position(), next);
+    }
+    assert_eq!(rt; reader.next(&Loads)?, None);
     assert_eq!(rt; reader.position(), 8);
     Ok(())
 }
@@ -146,25 +139,16 @@ fn the_longest_plan(rt: HostRuntime) {
 
 #[test]
 fn numbers_and_values(rt: HostRuntime) {
-    assert_eq!(rt;
-        (Refusal::NotAnItem.number(), Refusal::NotAnItem.values()),
-        (9, (0, 0))
-    );
-    assert_eq!(rt;
-        (
-            Refusal::NoSuchCode(96).number(),
-            Refusal::NoSuchCode(96).values(),
-        ),
-        (3, (96, 0))
-    );
-    assert_eq!(rt;
-        (Refusal::CutShort.number(), Refusal::CutShort.values()),
-        (10, (0, 0))
-    );
-    assert_eq!(rt;
-        (Refusal::TooLong.number(), Refusal::TooLong.values()),
-        (10, (0, 0))
-    );
+    let refusals = [
+        (Refusal::NotAnItem, 9, (0, 0)),
+        (Refusal::NoSuchCode(96), 3, (96, 0)),
+        (Refusal::CutShort, 10, (0, 0)),
+        (Refusal::TooLong, 10, (0, 0)),
+    ];
+    for (refusal, number, values) in refusals {
+        assert_eq!(rt; refusal.number(), number);
+        assert_eq!(rt; refusal.values(), values);
+    }
 }
 
 #[test]

@@ -1,4 +1,4 @@
-// Theorems about plans. The functions here do nothing: each carries a theorem in its contract.
+//! Theorems about plans. The functions here do nothing: each carries a theorem in its contract.
 ghost use Rattle.plan.specs.Reading.{OneReading, GivesBack};
 
 /// Every position of a plan has exactly one item, refusal or end, and one position where the next item begins.

@@ -1,4 +1,3 @@
 pub mod CommaSeparated
 pub mod Hexadecimal
-pub mod Classes
-pub mod Escapes
+pub mod WholeRuns

@@ -1,5 +1,5 @@
 -- The names of codes and classes. Assumes nothing.
-use Rattle.std.specs.Prelude.{ℕ, ◌-◌, ◌%◌, cond, List, [], ◌∷◌, map, codes, decimal, filter, ◌==◌}
+use Rattle.std.specs.Prelude.{◌≡◌, ◌≢◌, ℕ, ◌-◌, ◌%◌, cond, List, [], ◌∷◌, map, codes, decimal, filter, ◌==◌, Result, MatchResult}
 use Rattle.std.specs.List.{range_with_len}
 use Rattle.theory.specs.Meaning.{has}
 use Rattle.alphabet.specs.Types.{function}
@@ -7,8 +7,18 @@ use Rattle.alphabet.specs.Loads.{family}
 use Rattle.alphabet.specs.Loads as loads
 use Rattle.report.specs.declared.names.Names.{Names}
 use Rattle.report.specs.declared.names.Names.TheVariants.{Types, Loads}
+use Rattle.report.specs.declared.names.UnknownNames.{UnknownNames}
 use Rattle.report.specs.Texts.{◌then◌, comma_separated_text}
 use Rattle.report.specs.Tables.{Entry, ◌is◌, looked_up}
+
+-- the word by which names are asked for
+abbrev pub word_of : Names → List ℕ
+word_of Types = codes "types"
+word_of Loads = codes "loads"
+
+-- a word gives the names that it asks for, or an error where it asks for none
+abbrev pub ParsesNames : List ℕ → Result Names UnknownNames → Type 0
+ParsesNames word result = MatchResult result (λ names. word ≡ word_of names) (λ _. (names : Names) → word ≢ word_of names)
 
 -- the types but for functions, by their codes
 abbrev pub type_names : List Entry

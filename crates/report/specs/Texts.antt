@@ -1,5 +1,5 @@
 -- Texts that others are made of: one after another, with commas between, and hexadecimal digits. Assumes nothing.
-use Rattle.std.specs.Prelude.{ℕ, zero, suc, ◌/◌, ◌%◌, List, [], ◌∷◌, ◌++◌, codes}
+use Rattle.std.specs.Prelude.{◌≡◌, ℕ, zero, suc, ◌/◌, ◌%◌, List, [], ◌∷◌, ◌++◌, codes, Option, Some}
 use Rattle.std.specs.Char.{digit_char}
 
 -- one text, and then another
@@ -12,6 +12,10 @@ abbrev pub comma_separated_text : List (List ℕ) → List ℕ
 comma_separated_text [] = []
 comma_separated_text (text ∷ []) = text
 comma_separated_text (text ∷ next ∷ texts) = text then codes ", " then comma_separated_text (next ∷ texts)
+
+-- each value is shown as the text that the function gives for it
+abbrev pub ShownAs : {X : Type 0} → (X → Option (List ℕ)) → (X → List ℕ) → Type 0
+ShownAs {X} output text = (x : X) → output x ≡ Some (text x)
 
 -- the lowest hexadecimal digits of a number, so many of them, in lower case
 abbrev pub hexadecimal : ℕ → ℕ → List ℕ

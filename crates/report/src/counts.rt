@@ -1,25 +1,41 @@
-ghost use Rattle.std.specs.Prelude.{◌≡◌, IfOk, string_bytes};
+//! How many there are of something.
+ghost use Rattle.std.specs.Prelude.{Some};
 ghost use Rattle.report.specs.Counts.{with_noun_text, counts_text};
 
-use std::alloc::{AllocError, Global};
+use plan::tally::Tally;
+use std::fmt;
 
 /// How many items, cells and words a plan has, as `6 items, 1 cell, 12 words`.
-pub fn counts(heap: Global, items: usize, cells: usize, words: usize) -> Result<String, AllocError>
-    ensures { IfOk result (λ s. string_bytes s ≡ counts_text items cells words) }
-{
-    let items = with_noun(heap, items, "item", "items")?;
-    let cells = with_noun(heap, cells, "cell", "cells")?;
-    let words = with_noun(heap, words, "word", "words")?;
-    format!(in heap; "{items}, {cells}, {words}")
+#[derive(Clone, Copy, Debug)]
+pub struct PlanCounts {
+    pub tally: Tally,
+    pub words: usize,
 }
 
-// A number, and its noun in the singular or the plural.
-fn with_noun(heap: Global, count: usize, one: &str, many: &str) -> Result<String, AllocError>
-    ensures { IfOk result (λ s. string_bytes s ≡ with_noun_text count one.now many.now) }
-{
-    if count == 1 {
-        format!(in heap; "{count} {one}")
-    } else {
-        format!(in heap; "{count} {many}")
+impl fmt::Display for PlanCounts {
+    ghost output = { λ counts. Some (counts_text counts.tally.items counts.tally.cells counts.words) };
+
+    fn fmt<W: fmt::Write>(&self, f: &mut fmt::Formatter<W>) -> fmt::Result {
+        let items = WithNoun(self.tally.items, "item", "items");
+        let cells = WithNoun(self.tally.cells, "cell", "cells");
+        let words = WithNoun(self.words, "word", "words");
+        write!(f, "{items}, {cells}, {words}")
+    }
+}
+
+// A number, and its noun in the singular and in the plural.
+#[derive(Clone, Copy)]
+struct WithNoun(usize, &'static str, &'static str);
+
+impl fmt::Display for WithNoun {
+    ghost output = { λ it. Some (with_noun_text it.0 it.1.now it.2.now) };
+
+    fn fmt<W: fmt::Write>(&self, f: &mut fmt::Formatter<W>) -> fmt::Result {
+        let WithNoun(count, one, many) = *self;
+        if count == 1 {
+            write!(f, "{count} {one}")
+        } else {
+            write!(f, "{count} {many}")
+        }
     }
 }

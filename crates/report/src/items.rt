@@ -1,60 +1,81 @@
-ghost use Rattle.std.specs.Prelude.{◌≡◌, IfOk, string_bytes};
+//! The line that is printed for an item of a plan.
+ghost use Rattle.std.specs.Prelude.{Some};
 ghost use Rattle.plan.specs.Items.{item_of};
 ghost use Rattle.report.specs.Items.{item_text, of_classes_text, over_cells_text};
 
-use crate::names::{Names, classes, symbol};
-use crate::texts::comma_separated_numbers;
+use crate::names::{Classes, Names, Symbol};
+use crate::texts::write_comma_separated;
 use plan::item::Item;
-use std::alloc::{AllocError, Global};
+use std::fmt;
 
 /// An item, the position of its first word, and the cell that it makes (`cell` is the number of cells before it), as
 /// `word 3: cell 3 is pallet over cell 2`.
-pub fn item_line(
-    heap: Global,
-    names: Names,
-    position: usize,
-    cell: usize,
-    item: &Item,
-) -> Result<String, AllocError>
-    ensures { IfOk result (λ s. string_bytes s ≡ item_text names position cell (item_of item.now)) }
-{
-    match *item {
-        Item::Unknown { set } => {
-            let of = of_classes(heap, names, set)?;
-            format!(in heap; "word {position}: cell {cell} is unknown{of}")
+#[derive(Clone, Copy, Debug)]
+pub struct ItemLine<'a> {
+    pub names: Names,
+    pub position: usize,
+    pub cell: usize,
+    pub item: &'a Item<'a>,
+}
+
+impl fmt::Display for ItemLine<'_> {
+    ghost output = { λ line. Some (item_text line.names line.position line.cell (item_of line.item.now)) };
+
+    fn fmt<W: fmt::Write>(&self, f: &mut fmt::Formatter<W>) -> fmt::Result {
+        let ItemLine {
+            names,
+            position,
+            cell,
+            item,
+        } = *self;
+        match *item {
+            Item::Unknown { set } => {
+                let of = OfClasses(Classes { names, set });
+                write!(f, "word {position}: cell {cell} is unknown{of}")
+            }
+            Item::Term { code, places } => {
+                let symbol = Symbol { names, code };
+                let over = OverCells(places);
+                write!(f, "word {position}: cell {cell} is {symbol}{over}")
+            }
+            Item::Link { left, right } => {
+                write!(f, "word {position}: cells {left} and {right} are linked")
+            }
         }
-        Item::Term { code, places } => {
-            let symbol = symbol(heap, names, code)?;
-            let over = over_cells(heap, places)?;
-            format!(in heap; "word {position}: cell {cell} is {symbol}{over}")
-        }
-        Item::Link { left, right } => format!(in heap;
-            "word {position}: cells {left} and {right} are linked"
-        ),
     }
 }
 
 // The classes that must admit an unknown, where there are any.
-fn of_classes(heap: Global, names: Names, set: u8) -> Result<String, AllocError>
-    ensures { IfOk result (λ s. string_bytes s ≡ of_classes_text names set) }
-{
-    if set == 0 {
-        return Ok(String::new(heap));
+#[derive(Clone, Copy)]
+struct OfClasses(Classes);
+
+impl fmt::Display for OfClasses {
+    ghost output = { λ of. Some (of_classes_text of.0.names of.0.set) };
+
+    fn fmt<W: fmt::Write>(&self, f: &mut fmt::Formatter<W>) -> fmt::Result {
+        let classes = self.0;
+        if classes.set == 0 {
+            return Ok(());
+        }
+        write!(f, " of {classes}")
     }
-    let classes = classes(heap, names, set)?;
-    format!(in heap; " of {classes}")
 }
 
 // The cells at the places of a term.
-fn over_cells(heap: Global, cells: &[u32]) -> Result<String, AllocError>
-    ensures { IfOk result (λ s. string_bytes s ≡ over_cells_text cells.now) }
-{
-    match cells {
-        [] => Ok(String::new(heap)),
-        [cell] => format!(in heap; " over cell {cell}"),
-        [_, _, ..] => {
-            let list = comma_separated_numbers(heap, cells)?;
-            format!(in heap; " over cells {list}")
+#[derive(Clone, Copy)]
+struct OverCells<'a>(&'a [u32]);
+
+impl fmt::Display for OverCells<'_> {
+    ghost output = { λ over. Some (over_cells_text over.0.now) };
+
+    fn fmt<W: fmt::Write>(&self, f: &mut fmt::Formatter<W>) -> fmt::Result {
+        match self.0 {
+            [] => Ok(()),
+            [cell] => write!(f, " over cell {cell}"),
+            cells => {
+                f.write_str(" over cells ")?;
+                write_comma_separated(f, cells.iter())
+            }
         }
     }
 }

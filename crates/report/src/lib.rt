@@ -1,4 +1,4 @@
-// The texts that are printed about plans. Each is made as a `String`, and fails only for want of memory.
+//! The texts that are printed about plans, each as what the `Display` of a type writes.
 #![tactic(auto)]
 
 pub mod counts;

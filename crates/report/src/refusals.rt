@@ -1,43 +1,55 @@
-ghost use Rattle.std.specs.Prelude.{◌≡◌, IfOk, string_bytes, slice_index};
+//! The sentence that says why a plan is sent back.
+ghost use Rattle.std.specs.Prelude.{◌≡◌, Some, slice_index};
 ghost use Rattle.report.specs.Refusals.{refusal_text, reason_text};
 
-use crate::texts::word_text;
+use crate::texts::Word;
+use plan::reader::MOST_WORDS;
 use plan::refusal::{PlanFault, Refusal};
-use std::alloc::{AllocError, Global};
-
-/// The most words that a plan may have.
-const MOST_WORDS: usize = 8192;
+use std::fmt;
 
 /// What sends a plan of these words back, in a sentence, as `refused with 3 at word 2: the alphabet has no code 96`.
-pub fn refusal_sentence(heap: Global, fault: PlanFault, words: &[u32]) -> Result<String, AllocError>
-    ensures { IfOk result (λ s. string_bytes s ≡ refusal_text fault words.now) }
-{
-    let number = fault.refusal.number();
-    let position = fault.position;
-    let reason = reason(heap, fault.refusal, position, words)?;
-    format!(in heap; "refused with {number} at word {position}: {reason}")
+#[derive(Clone, Copy, Debug)]
+pub struct RefusalSentence<'a> {
+    pub fault: PlanFault,
+    pub words: &'a [u32],
 }
 
-// What is wrong at a position of the words.
-fn reason(
-    heap: Global,
-    refusal: Refusal,
-    position: usize,
-    words: &[u32],
-) -> Result<String, AllocError>
-    ensures { IfOk result (λ s. string_bytes s ≡ reason_text refusal position words.now) }
-{
-    match refusal {
-        Refusal::TooLong => {
-            let count = words.len();
-            format!(in heap; "the plan has {count} words, and a plan has at most {MOST_WORDS}")
+impl fmt::Display for RefusalSentence<'_> {
+    ghost output = { λ it. Some (refusal_text it.fault it.words.now) };
+
+    fn fmt<W: fmt::Write>(&self, f: &mut fmt::Formatter<W>) -> fmt::Result {
+        let PlanFault { position, refusal } = self.fault;
+        let number = refusal.number();
+        let reason = Reason(*self);
+        write!(f, "refused with {number} at word {position}: {reason}")
+    }
+}
+
+// What is wrong at the position of the fault.
+#[derive(Clone, Copy)]
+struct Reason<'a>(RefusalSentence<'a>);
+
+impl fmt::Display for Reason<'_> {
+    ghost output = { λ it. Some (reason_text it.0.fault.refusal it.0.fault.position it.0.words.now) };
+
+    fn fmt<W: fmt::Write>(&self, f: &mut fmt::Formatter<W>) -> fmt::Result {
+        let RefusalSentence { fault, words } = self.0;
+        let PlanFault { position, refusal } = fault;
+        match refusal {
+            Refusal::TooLong => {
+                let count = words.len();
+                write!(
+                    f,
+                    "the plan has {count} words, and a plan has at most {MOST_WORDS}"
+                )
+            }
+            Refusal::NotAnItem => {
+                let word = Word(word_at(words, position));
+                write!(f, "{word} is not the first word of an item")
+            }
+            Refusal::NoSuchCode(code) => write!(f, "the alphabet has no code {code}"),
+            Refusal::CutShort => f.write_str("the plan ends inside this item"),
         }
-        Refusal::NotAnItem => {
-            let word = word_text(heap, word_at(words, position))?;
-            format!(in heap; "{word} is not the first word of an item")
-        }
-        Refusal::NoSuchCode(code) => format!(in heap; "the alphabet has no code {code}"),
-        Refusal::CutShort => String::from_str(heap, "the plan ends inside this item"),
     }
 }
 

@@ -1,14 +1,16 @@
-use crate::counts::counts;
-use crate::items::item_line;
-use crate::names::{Names, classes, symbol};
-use crate::refusals::refusal_sentence;
-use crate::texts::word_text;
-use crate::tokens::unreadable_sentence;
+use crate::counts::PlanCounts;
+use crate::items::ItemLine;
+use crate::names::{Classes, Names, Symbol, UnknownNames};
+use crate::refusals::RefusalSentence;
+use crate::texts::Word;
+use crate::tokens::UnreadableSentence;
 use plan::item::Item;
 use plan::refusal::{PlanFault, Refusal};
-use std::alloc::AllocError;
+use plan::tally::Tally;
+use std::fmt::Display;
 use std::process::Abort;
 use std::test::Fail;
+use words::Unreadable;
 
 // A code or a set, and its text.
 type Row = (u32, &'static str);
@@ -59,17 +61,35 @@ const LOADS: [Row; 14] = [
     (96, "code 96"),
 ];
 
-// The text that is made is the one that is wanted.
-fn says(rt: &impl Abort, made: Result<String, AllocError>, wanted: &str) -> Result<(), Fail> {
-    let text = made?;
+// The text that is printed is the one that is wanted.
+fn says(
+    rt: &(impl Abort + AllocGlobal),
+    shown: impl Display + Drop,
+    wanted: &str,
+) -> Result<(), Fail> {
+    let text = shown.to_string(rt.alloc())?;
     assert_eq!(rt; text.as_str(), wanted);
     Ok(())
 }
 
 #[test]
+fn names(rt: HostRuntime) {
+    assert_eq!(rt; "types".parse::<Names>(), Ok(Names::Types));
+    assert_eq!(rt; "loads".parse::<Names>(), Ok(Names::Loads));
+    assert_eq!(rt; "Loads".parse::<Names>(), Err(UnknownNames));
+    assert_eq!(rt; "".parse::<Names>(), Err(UnknownNames));
+}
+
+#[test]
+fn unknown_names(rt: HostRuntime) -> Result<(), Fail> {
+    says(&rt, UnknownNames, "the names are loads or types")
+}
+
+#[test]
 fn type_symbols(rt: HostRuntime) -> Result<(), Fail> {
     for (code, text) in TYPES {
-        says(&rt, symbol(rt.alloc(), Names::Types, code), text)?;
+        let names = Names::Types;
+        says(&rt, Symbol { names, code }, text)?;
     }
     Ok(())
 }
@@ -77,22 +97,35 @@ fn type_symbols(rt: HostRuntime) -> Result<(), Fail> {
 #[test]
 fn load_symbols(rt: HostRuntime) -> Result<(), Fail> {
     for (code, text) in LOADS {
-        says(&rt, symbol(rt.alloc(), Names::Loads, code), text)?;
+        let names = Names::Loads;
+        says(&rt, Symbol { names, code }, text)?;
     }
     Ok(())
 }
 
+fn classes(names: Names, set: u8) -> Classes {
+    Classes { names, set }
+}
+
 #[test]
 fn sets(rt: HostRuntime) -> Result<(), Fail> {
-    let heap = rt.alloc();
-    says(&rt, classes(heap, Names::Types, 0), "")?;
-    says(&rt, classes(heap, Names::Types, 1), "addable")?;
-    says(&rt, classes(heap, Names::Types, 2), "class 1")?;
-    says(&rt, classes(heap, Names::Loads, 2), "floor")?;
-    says(&rt, classes(heap, Names::Loads, 3), "belt, floor")?;
-    says(&rt, classes(heap, Names::Loads, 4), "class 2")?;
+    says(&rt, classes(Names::Types, 0), "")?;
+    says(&rt, classes(Names::Types, 1), "addable")?;
+    says(&rt, classes(Names::Types, 2), "class 1")?;
+    says(&rt, classes(Names::Loads, 2), "floor")?;
+    says(&rt, classes(Names::Loads, 3), "belt, floor")?;
+    says(&rt, classes(Names::Loads, 4), "class 2")?;
     let all = "belt, floor, class 2, class 3, class 4, class 5, class 6, class 7";
-    says(&rt, classes(heap, Names::Loads, 255), all)
+    says(&rt, classes(Names::Loads, 255), all)
+}
+
+fn line<'a>(position: usize, cell: usize, item: &'a Item<'a>) -> ItemLine<'a> {
+    ItemLine {
+        names: Names::Loads,
+        position,
+        cell,
+        item,
+    }
 }
 
 fn term(code: u32, places: &[u32]) -> Item<'_> {
@@ -101,102 +134,106 @@ fn term(code: u32, places: &[u32]) -> Item<'_> {
 
 #[test]
 fn items(rt: HostRuntime) -> Result<(), Fail> {
-    let heap = rt.alloc();
     says(
         &rt,
-        item_line(heap, Names::Loads, 0, 0, &Item::Unknown { set: 0 }),
+        line(0, 0, &Item::Unknown { set: 0 }),
         "word 0: cell 0 is unknown",
     )?;
     says(
         &rt,
-        item_line(heap, Names::Loads, 1, 1, &Item::Unknown { set: 3 }),
+        line(1, 1, &Item::Unknown { set: 3 }),
         "word 1: cell 1 is unknown of belt, floor",
     )?;
     says(
         &rt,
-        item_line(heap, Names::Loads, 2, 2, &term(19, &[])),
+        line(2, 2, &term(19, &[])),
         "word 2: cell 2 is tote mark 3",
     )?;
     says(
         &rt,
-        item_line(heap, Names::Loads, 3, 3, &term(48, &[2])),
+        line(3, 3, &term(48, &[2])),
         "word 3: cell 3 is pallet over cell 2",
     )?;
     says(
         &rt,
-        item_line(heap, Names::Loads, 5, 4, &term(81, &[2, 3, 2])),
+        line(5, 4, &term(81, &[2, 3, 2])),
         "word 5: cell 4 is kit mark 1 over cells 2, 3, 2",
     )?;
     says(
         &rt,
-        item_line(heap, Names::Loads, 9, 5, &Item::Link { left: 1, right: 4 }),
+        line(9, 5, &Item::Link { left: 1, right: 4 }),
         "word 9: cells 1 and 4 are linked",
     )
 }
 
-#[test]
-fn numbers(rt: HostRuntime) -> Result<(), Fail> {
-    let heap = rt.alloc();
-    says(&rt, counts(heap, 6, 5, 12), "6 items, 5 cells, 12 words")?;
-    says(&rt, counts(heap, 1, 1, 1), "1 item, 1 cell, 1 word")?;
-    says(&rt, counts(heap, 0, 0, 0), "0 items, 0 cells, 0 words")?;
-    says(&rt, word_text(heap, 0x1300_000a), "0x1300000a")?;
-    says(&rt, word_text(heap, 0), "0x00000000")?;
-    says(&rt, word_text(heap, u32::MAX), "0xffffffff")
+fn counts(items: usize, cells: usize, words: usize) -> PlanCounts {
+    PlanCounts {
+        tally: Tally { items, cells },
+        words,
+    }
 }
 
-fn at(position: usize, refusal: Refusal) -> PlanFault {
-    PlanFault { position, refusal }
+#[test]
+fn numbers(rt: HostRuntime) -> Result<(), Fail> {
+    says(&rt, counts(6, 5, 12), "6 items, 5 cells, 12 words")?;
+    says(&rt, counts(1, 1, 1), "1 item, 1 cell, 1 word")?;
+    says(&rt, counts(0, 0, 0), "0 items, 0 cells, 0 words")?;
+    says(&rt, Word(0x1300_000a), "0x1300000a")?;
+    says(&rt, Word(0), "0x00000000")?;
+    says(&rt, Word(u32::MAX), "0xffffffff")
+}
+
+fn refused(position: usize, refusal: Refusal, words: &[u32]) -> RefusalSentence<'_> {
+    let fault = PlanFault { position, refusal };
+    RefusalSentence { fault, words }
 }
 
 #[test]
 fn refusals(rt: HostRuntime) -> Result<(), Fail> {
-    let heap = rt.alloc();
     let words = [0x1100_0000, 0x1400_0000];
     says(
         &rt,
-        refusal_sentence(heap, at(0, Refusal::TooLong), &[0; 8193]),
+        refused(0, Refusal::TooLong, &[0; 8193]),
         "refused with 10 at word 0: the plan has 8193 words, and a plan has at most 8192",
     )?;
     says(
         &rt,
-        refusal_sentence(heap, at(1, Refusal::NotAnItem), &words),
+        refused(1, Refusal::NotAnItem, &words),
         "refused with 9 at word 1: 0x14000000 is not the first word of an item",
     )?;
     says(
         &rt,
-        refusal_sentence(heap, at(2, Refusal::NotAnItem), &words),
+        refused(2, Refusal::NotAnItem, &words),
         "refused with 9 at word 2: 0x00000000 is not the first word of an item",
     )?;
     says(
         &rt,
-        refusal_sentence(heap, at(2, Refusal::NoSuchCode(96)), &words),
+        refused(2, Refusal::NoSuchCode(96), &words),
         "refused with 3 at word 2: the alphabet has no code 96",
     )?;
     says(
         &rt,
-        refusal_sentence(heap, at(7, Refusal::CutShort), &words),
+        refused(7, Refusal::CutShort, &words),
         "refused with 10 at word 7: the plan ends inside this item",
     )
 }
 
+fn unreadable(line: usize, token: &[u8]) -> UnreadableSentence<'_> {
+    UnreadableSentence(Unreadable { line, token })
+}
+
 #[test]
 fn unreadable_words(rt: HostRuntime) -> Result<(), Fail> {
-    let heap = rt.alloc();
     let plain =
         "line 3: cannot read \"12x4\" as a word (decimal, or hexadecimal after 0x, below 4294967296)";
-    says(&rt, unreadable_sentence(heap, 3, b"12x4"), plain)?;
+    says(&rt, unreadable(3, b"12x4"), plain)?;
     let odd =
         "line 1: cannot read \"\\xc3\\xa9 ~\\x22\\x5c\\x7f\\x1f\" as a word (decimal, or hexadecimal after 0x, below 4294967296)";
-    says(
-        &rt,
-        unreadable_sentence(heap, 1, b"\xc3\xa9 ~\"\\\x7f\x1f"),
-        odd,
-    )?;
+    says(&rt, unreadable(1, b"\xc3\xa9 ~\"\\\x7f\x1f"), odd)?;
     let whole =
         "line 1: cannot read \"7777777777777777777777777777777777777777\" as a word (decimal, or hexadecimal after 0x, below 4294967296)";
-    says(&rt, unreadable_sentence(heap, 1, &[b'7'; 40]), whole)?;
+    says(&rt, unreadable(1, &[b'7'; 40]), whole)?;
     let cut =
         "line 1: cannot read \"7777777777777777777777777777777777777777...\" as a word (decimal, or hexadecimal after 0x, below 4294967296)";
-    says(&rt, unreadable_sentence(heap, 1, &[b'7'; 50]), cut)
+    says(&rt, unreadable(1, &[b'7'; 50]), cut)
 }

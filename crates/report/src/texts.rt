@@ -1,62 +1,42 @@
-ghost use Rattle.std.specs.Prelude.{◌≡◌, ◌<◌, ◌≤◌, ◌++◌, map, IfOk, string_bytes, decimal, OnOk};
-ghost use Rattle.std.specs.Char.{digit_char};
-ghost use Rattle.report.specs.Texts.{hexadecimal, text_of_word, comma_separated_text};
+//! Texts that others are made of.
+ghost use Rattle.std.specs.Prelude.{◌≡◌, List, ℕ, map, IsOk, Some};
+ghost use Rattle.std.specs.Fmt.{HasWritten, IsPlainFormatter};
+ghost use Rattle.std.specs.Iterator.{IsFinite};
+ghost use Rattle.std.specs.Iterator.Runs.{WholeRun};
+ghost use Rattle.report.specs.Texts.{ShownAs, comma_separated_text, text_of_word};
 
-use std::alloc::{AllocError, Global};
+use std::fmt;
 
-/// A word as 0x and eight hexadecimal digits in lower case, as `0x1300000a`.
-pub fn word_text(heap: Global, word: u32) -> Result<String, AllocError>
-    ensures { IfOk result (λ s. string_bytes s ≡ text_of_word word) }
-{
-    let mut text = String::from_str(heap, "0x")?;
-    push_hexadecimal(&mut text, 8, word)?;
-    Ok(text)
+/// A word, shown as 0x and eight hexadecimal digits in lower case, as `0x1300000a`.
+#[derive(Clone, Copy, Debug)]
+pub struct Word(pub u32);
+
+#[tactic(auto, using(crate::proofs::Hexadecimal::hexadecimal_is_padded))]
+impl fmt::Display for Word {
+    ghost output = { λ word. Some (text_of_word word.0) };
+
+    fn fmt<W: fmt::Write>(&self, f: &mut fmt::Formatter<W>) -> fmt::Result {
+        let word = self.0;
+        write!(f, "0x{word:08x}")
+    }
 }
 
-// Adds the lowest hexadecimal digits of a number, so many of them.
-pub(crate) fn push_hexadecimal(
-    text: &mut String,
-    digits: u32,
-    number: u32,
-) -> Result<(), AllocError>
-    requires { digits ≤ 8 }
-    ensures { OnOk result (string_bytes text.new ≡ string_bytes text.old ++ hexadecimal digits number) }
+// Writes values with a comma and a space between. `text` is how each is shown.
+// `Formatter::write_joined` would do this too, but its contract does not say what it writes.
+pub(crate) fn write_comma_separated<W: fmt::Write, T: fmt::Display + Drop, I: Iterator<Item = T>>(
+    f: &mut fmt::Formatter<W>,
+    values: I,
+) -> fmt::Result
+    requires can { I.can_next values }
+    requires ends { IsFinite (I.remaining values) }
+    ensures { (text : T → List ℕ) → ShownAs T.output text → IsPlainFormatter f.old → IsOk result
+        → WholeRun I.next_gives values (λ run.
+        HasWritten W.write_str_gives f.old (comma_separated_text (map text run.items)) f.new) }
 {
-    for place in (0..digits).rev() {
-        text.push(hexadecimal_digit((number >> (4 * place)) % 16))?;
+    let mut separator = "";
+    for value in values {
+        write!(f, "{separator}{value}")?;
+        separator = ", ";
     }
     Ok(())
-}
-
-fn hexadecimal_digit(value: u32) -> char
-    requires { value < 16 }
-    ensures value { result ≡ digit_char value }
-    ensures bound { result < 128 }
-{
-    char::from_digit(value, 16).unwrap()
-}
-
-// Texts with a comma and a space between.
-pub(crate) fn comma_separated(heap: Global, texts: &[String]) -> Result<String, AllocError>
-    ensures { IfOk result (λ s. string_bytes s ≡ comma_separated_text (map string_bytes texts.now)) }
-{
-    let mut list = String::new(heap);
-    for (i, text) in texts.iter().enumerate() {
-        if i > 0 {
-            list.push_str(", ")?;
-        }
-        list.push_str(text.as_str())?;
-    }
-    Ok(list)
-}
-
-// Numbers with a comma and a space between.
-pub(crate) fn comma_separated_numbers(heap: Global, numbers: &[u32]) -> Result<String, AllocError>
-    ensures { IfOk result (λ s. string_bytes s ≡ comma_separated_text (map decimal numbers.now)) }
-{
-    let mut texts = Vec::new(heap);
-    for number in numbers {
-        texts.push(number.to_string(heap)?)?;
-    }
-    comma_separated(heap, texts.as_slice())
 }

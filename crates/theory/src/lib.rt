@@ -1,4 +1,4 @@
-// The theorems of the solver: each function carries one in its contract, and does nothing else.
+//! The theorems of the solver: each function carries one in its contract, and does nothing else.
 #![tactic(auto)]
 
 ghost use Rattle.theory.specs.Meaning.{ChoiceByMeaning};

@@ -1,5 +1,5 @@
+pub mod Numerals
 pub mod SpelledNumber
-pub mod DigitsSoFar
 pub mod LongestFront
 pub mod OneReading
 pub mod ReadSoFar

@@ -1,5 +1,6 @@
 -- Every text has one outcome and no other. Assumes nothing.
 use Rattle.std.proofs.Common.{◌≡◌, ℕ, zero, suc, ◌+◌, ◌<◌, ◌≤◌, List, [], ◌∷◌, ◌++◌, length, sym, refl, ap, subst, inl, inr, arith, length-append}
+use Rattle.std.proofs.lemmas.List.Elements.{All-head}
 use Rattle.std.proofs.Math.Decide.{dec_le, ℕ_discrete}
 use Rattle.words.specs.Reading.{White, Solid, Inline, Stops, Longest, Token, Passes, blank, next_line, comment, Outcome, words, unreadable, before, Reads, ended, pass, word, fault, OneReading, EveryTextHasOneReading}
 use Rattle.words.proofs.SpelledNumber.{one_spelling, decide_spells}
@@ -22,7 +23,7 @@ no_token {w} {t} k e s = go w k (subst (Stops Solid) e s)
   where
     go : (w : List ℕ) → Token w t → Stops Solid (w ++ t) → ⊥
     go [] k s = omega (arith, k.some)
-    go (b ∷ w) k s = s k.longest.all.0
+    go (b ∷ w) k s = s (All-head Solid b w k.longest.all)
 
 one_token : {v w t u : List ℕ} → Token v t → Token w u → v ++ t ≡ w ++ u → (v ≡ w) × (t ≡ u)
 one_token {v} {w} {t} {u} k l e = one_longest Solid v w t u e k.longest l.longest

@@ -1,9 +1,10 @@
 -- How a text is read from its front, a step at a time. Assumes nothing.
-use Rattle.std.proofs.Common.{◌≡◌, ℕ, ◌+◌, ◌<◌, ◌≤◌, List, [], ◌∷◌, ◌++◌, length, get_or, sym, refl, ap, ◌∙◌, subst, append_assoc, append-nil, arith, length-append}
+use Rattle.std.proofs.Common.{◌≡◌, ◌↔◌, true, false, IsTrue, IfSome, All, slice_get, ℕ, ◌+◌, ◌<◌, ◌≤◌, List, [], ◌∷◌, ◌++◌, length, get_or, sym, refl, ap, ◌∙◌, subst, append_assoc, append-nil, arith, length-append}
 use Rattle.std.specs.List.{between}
 use Rattle.std.proofs.lemmas.Slice.{first_rest}
 use Rattle.words.specs.Spelling.{Spells}
-use Rattle.words.specs.Reading.{White, Solid, Inline, Longest, Token, Passes, blank, next_line, comment, Outcome, words, unreadable, before, Reads, ended, pass, word, fault, OneReading, BeginsWithWord, here, later}
+use Rattle.words.specs.Reading.{White, Solid, Inline, Token, Passes, blank, next_line, comment, Outcome, words, unreadable, before, Reads, ended, pass, word, fault, OneReading, BeginsWithWord, here, later}
+use Rattle.words.proofs.LongestFront.{longest_by_test}
 use Rattle.words.proofs.OneReading.{pass_shortens, one_reading, solid_token}
 
 -- the words found stand at the front of the text, and the rest begins in that line
@@ -31,7 +32,7 @@ module _ {text found : List ℕ} {n : ℕ} {t : List ℕ} (so : SoFar text found
     lines = omega (arith, so.lines, ap length e, length-append w u);
   }
 
-pub all_read : {text found : List ℕ} {n : ℕ} {t : List ℕ} → SoFar text found n t → length t ≡ 0 → OneReading 1 text (words found)
+pub all_read : {text found : List ℕ} {n : ℕ} {t : List ℕ} → SoFar text found n t → length t < 1 → OneReading 1 text (words found)
 all_read {t = []} so e = one_reading (rw append-nil at (so.reads _ ended))
 all_read {t = b ∷ t} so e = absurd (omega arith)
 
@@ -51,8 +52,8 @@ at_line_end {n} t l e = at_first (λ x. Passes n x (n + 1) (tail t)) t l (rw e n
 pub at_blank : {n : ℕ} (t : List ℕ) → 0 < length t → White (get_or t 0 0) → Inline (get_or t 0 0) → Passes n t n (tail t)
 at_blank {n} t l w i = at_first (λ x. Passes n x n (tail t)) t l (blank w i)
 
-pub at_comment : {n : ℕ} (t : List ℕ) {c u : List ℕ} → 0 < length t → get_or t 0 0 ≡ 35 → tail t ≡ c ++ u → Longest Inline c u → Passes n t n u
-at_comment {n} t {c} {u} l e f k = at_first (λ x. Passes n x n u) t l (rw (e, f) (comment k))
+pub at_comment : {n : ℕ} (t c u : List ℕ) → 0 < length t → get_or t 0 0 ≡ 35 → tail t ≡ c ++ u → All (λ b. IsTrue true ↔ Inline b) c → IfSome (slice_get u 0) (λ b. IsTrue false ↔ Inline b) → Passes n t n u
+at_comment {n} t c u l e f a s = at_first (λ x. Passes n x n u) t l (rw (e, f) (comment (longest_by_test Inline c u a s)))
 
-pub at_token : (t : List ℕ) {w u : List ℕ} → 0 < length t → Solid (get_or t 0 0) → t ≡ w ++ u → Longest Solid w u → Token w u
-at_token t {w} {u} l s e k = solid_token s (sym (first_rest t 0 l) ∙ e) k
+pub at_token : (t w u : List ℕ) → 0 < length t → Solid (get_or t 0 0) → t ≡ w ++ u → All (λ b. IsTrue true ↔ Solid b) w → IfSome (slice_get u 0) (λ b. IsTrue false ↔ Solid b) → Token w u
+at_token t w u l s e a r = solid_token s (sym (first_rest t 0 l) ∙ e) (longest_by_test Solid w u a r)

@@ -1,15 +1,8 @@
 -- What the code's own types say of a text. Assumes nothing.
 use Rattle.std.specs.Prelude.{ℕ, List}
-use Rattle.words.specs.declared.Run.{Run}
-use Rattle.words.specs.declared.Run.TheVariants as runs
 use Rattle.words.specs.declared.TextError.{TextError}
 use Rattle.words.specs.declared.TextError.TheVariants as errors
-use Rattle.words.specs.Reading.{Solid, Inline, unreadable, OneReading, BeginsWithWord}
-
--- the bytes that a run of this kind goes on with
-abbrev pub Continues : Run → ℕ → Type 0
-Continues runs.Token = Solid
-Continues runs.Comment = Inline
+use Rattle.words.specs.Reading.{unreadable, OneReading, BeginsWithWord}
 
 -- a token is refused where that is the outcome of the text, and memory is wanting only where there is a word to keep
 abbrev pub Refuses : (text : List ℕ) → TextError → Type 0

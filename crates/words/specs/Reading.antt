@@ -1,6 +1,6 @@
 -- How a text is read: what is passed over, what is a token, and what the text comes to. Assumes nothing.
 use Rattle.std.specs.Prelude.{◌≡◌, ℕ, ◌+◌, ◌<◌, ◌≤◌, ◌⊎◌, List, [], ◌∷◌, ◌++◌, length, ◌≢◌}
-use Rattle.std.specs.List.{AllByRecursion}
+use Rattle.std.specs.List.{All}
 use Rattle.words.specs.Spelling.{Spells}
 
 -- tab to carriage return, and space
@@ -22,7 +22,7 @@ Stops P (b ∷ bs) = P b → ⊥
 
 -- of the text front ++ rest, front is the longest front whose bytes have the property
 pub record Longest (P : ℕ → Type 0) (front rest : List ℕ) : Type 0 where
-  pub all : AllByRecursion P front
+  pub all : All P front
   pub stops : Stops P rest
 
 -- the text token ++ rest begins with that token

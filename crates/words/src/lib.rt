@@ -4,23 +4,24 @@
 
 mod number;
 
-ghost use Rattle.std.specs.Prelude.{◌≡◌, ◌++◌, Decides, MatchResult};
-ghost use Rattle.words.specs.Answer.{Continues, Refuses};
+ghost use Rattle.std.specs.Prelude.{◌≡◌, ◌↔◌, true, false, ◌++◌, IsTrue, IfSome, MatchResult, slice_get, All};
+ghost use Rattle.words.specs.Answer.{Refuses};
 ghost use Rattle.words.specs.declared.TextError.TheVariants.{Memory};
-ghost use Rattle.words.specs.Reading.{White, Longest, words, OneReading, EveryTextHasOneReading};
+ghost use Rattle.words.specs.Reading.{White, Solid, Inline, words, OneReading, EveryTextHasOneReading};
 
 pub use number::number_of;
 use std::alloc::{AllocFailed, Global};
 
 /// A token that cannot be read, and the line in which it stands, from 1.
-#[derive(Clone, Copy, Debug)]
+#[derive(Clone, Copy, Debug, PartialEq, Eq)]
 pub struct Unreadable<'a> {
     pub line: usize,
     pub token: &'a [u8],
 }
 
+// No `Display`: the program prints an unreadable token by the sentence that `report` defines.
 /// Why the words of a text cannot be given.
-#[derive(Clone, Copy, Debug)]
+#[derive(Clone, Copy, Debug, PartialEq, Eq)]
 pub enum TextError<'a> {
     /// The first token that cannot be read.
     Unreadable(Unreadable<'a>),
@@ -31,48 +32,42 @@ pub enum TextError<'a> {
 impl<'a> From<AllocFailed<u32>> for TextError<'a> {
     ghost from_gives = { λ _ e. e ≡ Memory };
 
-    fn from(_refused: AllocFailed<u32>) -> TextError<'a> {
+    fn from(_error: AllocFailed<u32>) -> TextError<'a> {
         TextError::Memory
-    }
-}
-
-/// What a run of bytes can be.
-#[derive(Clone, Copy)]
-enum Run {
-    Token,
-    Comment,
-}
-
-impl Run {
-    /// Whether a run of this kind goes on with the byte.
-    fn continues(self, byte: u8) -> bool
-        ensures { Decides result (Continues self byte) }
-    {
-        match self {
-            Run::Token => !is_white(byte) && byte != b'#',
-            Run::Comment => byte != b'\n',
-        }
     }
 }
 
 /// Whether the byte is white space: tab to carriage return, or space.
 fn is_white(byte: u8) -> bool
-    ensures { Decides result (White byte) }
+    ensures { IsTrue result ↔ White byte }
 {
+    // `is_ascii_whitespace` leaves the vertical tab out.
     matches!(byte, b'\t'..=b'\r' | b' ')
 }
 
-/// Cuts the text behind the longest run at its front.
-fn cut<'a>(text: &'a [u8], run: Run) -> (&'a [u8], &'a [u8])
-    ensures whole { text.now ≡ result.0.now ++ result.1.now }
-    ensures longest { Longest (Continues run) result.0.now result.1.now }
+/// Whether the byte can stand in a token.
+fn is_solid(byte: u8) -> bool
+    ensures { IsTrue result ↔ Solid byte }
 {
-    for (i, byte) in text.iter().enumerate() {
-        if !run.continues(*byte) {
-            return text.split_at(i);
-        }
-    }
-    text.split_at(text.len())
+    !is_white(byte) && byte != b'#'
+}
+
+/// Whether the byte can stand in a comment.
+fn is_inline(byte: u8) -> bool
+    ensures { IsTrue result ↔ Inline byte }
+{
+    byte != b'\n'
+}
+
+/// Splits the text behind its longest front whose bytes belong.
+fn cut<F: Fn(u8) -> bool>(text: &[u8], belongs: F) -> (&[u8], &[u8])
+    requires { F.IsAlwaysCallable belongs }
+    ensures whole { text.now ≡ result.0.now ++ result.1.now }
+    ensures front { All (λ b. F.post belongs b true) result.0.now }
+    ensures end { IfSome (slice_get result.1.now 0) (λ b. F.post belongs b false) }
+{
+    let length = text.iter().take_while(|&&byte| belongs(byte)).count();
+    text.split_at(length)
 }
 
 /// The words of the text, or the first token that cannot be read; want of memory is told only where there is a word to
@@ -89,13 +84,12 @@ pub fn words_of<'a>(heap: Global, text: &'a [u8]) -> Result<Vec<u32>, TextError<
                 line += 1;
                 rest = tail;
             }
-            b'#' => rest = cut(tail, Run::Comment).1,
+            b'#' => rest = cut(tail, is_inline).1,
             byte if is_white(byte) => rest = tail,
             _ => {
-                let (token, after) = cut(rest, Run::Token);
-                let Some(word) = number_of(token) else {
-                    return Err(TextError::Unreadable(Unreadable { line, token }));
-                };
+                let (token, after) = cut(rest, is_solid);
+                let unreadable = TextError::Unreadable(Unreadable { line, token });
+                let word = number_of(token).ok_or(unreadable)?;
                 found.push(word)?;
                 rest = after;
             }
@@ -127,14 +121,9 @@ mod tests {
         line: usize,
         token: &[u8],
     ) -> Result<(), Fail> {
-        match words_of(rt.alloc(), text) {
-            Err(TextError::Unreadable(fault)) => {
-                assert_eq!(rt; fault.line, line);
-                assert_eq!(rt; fault.token, token);
-                Ok(())
-            }
-            _ => Err(Fail::new("no token was refused")),
-        }
+        let fault = TextError::Unreadable(Unreadable { line, token });
+        assert_eq!(rt; words_of(rt.alloc(), text).err(), Some(fault));
+        Ok(())
     }
 
     #[test]

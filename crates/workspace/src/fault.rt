@@ -22,6 +22,8 @@ pub enum Fault {
     NoClasses { left: u32, right: u32 },
 }
 
+// The numbers and values are those that are stated outside the program; `plan::refusal::Refusal` answers the same two questions
+// with narrower values, and nothing takes either of them, so a trait over both would serve no one.
 impl Fault {
     /// The number of the refusal.
     pub fn number(self) -> u32
@@ -47,6 +49,7 @@ impl Fault {
             Fault::Full | Fault::NoRoom => (0, 0),
             Fault::NoCode { set } => (u64::from(set), 0),
             Fault::NoSuchCode { code } => (u64::from(code), 0),
+            // `u64` has no `From<usize>`
             Fault::WrongCount { code, count } => (u64::from(code), count as u64),
             Fault::NoSuchCell { cell } => (u64::from(cell), 0),
             Fault::NoTypes { left, right } | Fault::NoClasses { left, right } => (

@@ -1,4 +1,4 @@
-// Theorems about the calls. Each function carries one in its contract, and does nothing else.
+//! Theorems about the calls. Each function carries one in its contract, and does nothing else.
 ghost use Rattle.workspace.specs.Promise.{CallsHaveOneAnswer, ReachedStatesKeepThePromise};
 
 /// In every state that calls lead to, each call has an answer, and only one.

@@ -1,11 +1,11 @@
 -- A token is hexadecimal behind 0x, and else decimal.
-use Rattle.std.proofs.Common.{rules}
-use Rattle.std.proofs.lemmas.List.{take_rest}
 use Rattle.words.proofs.SpelledNumber.{behind_0x, elsewhere, finds_like}
 use Rattle.words.proofs.number.number_of.Goals as goal
 
-pub returns-in-48 : goal.returns-in-48
-returns-in-48 c = finds_like _ _ _ (behind_0x _ (search rules)) (rw take_rest at c.numeral_value.ensures)
+pub returns-in-Some : goal.returns-in-Some
+returns-in-Some c =
+    let cut = c.in-Some.ensures.cases in
+    finds_like _ _ _ (behind_0x _ cut.0) (rw cut.1 at c.numeral_value.ensures)
 
-pub returns-in_default : goal.returns-in_default
-returns-in_default c = finds_like _ _ _ (elsewhere _ (λ x. search rules)) c.numeral_value-in_default.ensures
+pub returns-in-None : goal.returns-in-None
+returns-in-None c = finds_like _ _ _ (elsewhere _ c.in-None.ensures.cases) c.numeral_value-in-None.ensures

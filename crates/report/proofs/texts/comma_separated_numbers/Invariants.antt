@@ -1,6 +1,0 @@
--- The texts so far are those of the numbers so far. Assumes nothing.
-use Rattle.std.proofs.Common.{◌≡◌, map, take, vec_items, string_bytes, decimal}
-use Rattle.report.proofs.texts.comma_separated_numbers.Given as goal
-
-abbrev pub invariant-loop-number : goal.invariant-loop-number
-invariant-loop-number l = map string_bytes (vec_items l.texts) ≡ map decimal (take l.number-index l.numbers)
