@@ -125,7 +125,8 @@ impl Walk {
     }
 }
 
-// The moves of a walk. They ask for a frame on the stack; a type for a walk that has one would only hold the walk again.
+// The moves of a walk. `advance`, `pop` and `step`, like `top`, ask for a frame on the stack; a type for a walk that has one would
+// only hold the walk again.
 impl Walk {
     // To an untouched node.
     fn push(&mut self, node: u16)

@@ -6,6 +6,7 @@ ghost use Rattle.classes.specs.Rewinding.{Undone};
 use crate::forest::{Class, Classes, Entry};
 use crate::link::Link;
 
+// As for cells: classes go by numbers of cells, so each call that needs it asks that a number is one.
 impl Classes {
     /// How many links were made and not undone.
     pub fn links(&self) -> usize
