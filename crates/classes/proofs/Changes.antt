@@ -1,5 +1,5 @@
 -- What the writes of each method change, as clients see it. Assumes nothing.
-use Rattle.std.proofs.Common.{◌≡◌, ℕ, ◌+◌, ◌<◌, ◌≤◌, List, length, set, slice_index, slice_index_or, sym, refl, ap, ◌∙◌, subst, arith}
+use Rattle.std.proofs.Common.{◌≡◌, ℕ, ◌+◌, ◌%◌, ◌^◌, ◌<◌, ◌≤◌, List, length, set, slice_index, slice_index_or, sym, refl, ap, ◌∙◌, subst, arith}
 use Rattle.std.proofs.lemmas.Bool.{cases_eq}
 use Rattle.std.proofs.lemmas.Bool.Decides.{nat_tests}
 use Rattle.std.proofs.lemmas.List.{get_or-set_same, get_or-set_other, set-set, set-get_or}
@@ -10,7 +10,7 @@ use Rattle.classes.specs.declared.forest.Entry.{Entry}
 use Rattle.classes.specs.declared.forest.Classes.{Classes}
 use Rattle.classes.specs.Forests.{Forest, next_in, follow, label_in}
 use Rattle.classes.specs.Trails.{lower_in, no_class, no_entry}
-use Rattle.classes.specs.Views.{count_of, links_of, label_of, class_of, shape_of, set_of, entry_of, lower_of, upper_of, old_class_of}
+use Rattle.classes.specs.Views.{count_of, links_of, label_of, class_of, shape_of, set_of, size_of, entry_of, lower_of, upper_of, old_class_of}
 use Rattle.classes.specs.Rewinding.{restored, SameEntries, Undone, Since}
 use Rattle.classes.specs.Moves.{Added, Linked, Reshaped, Rewound}
 use Rattle.classes.proofs.Ways.{follow_last, next_cell, label_same, follow_sent}
@@ -30,6 +30,9 @@ module _ (i : ℕ) (was now : Classes) (classes : now.classes ≡ set was.classe
   set_kept : (j : ℕ) → (j ≡ i → ⊥) → set_of now j ≡ set_of was j
   set_kept j n = ap (λ (k : Class). k.set) (class_kept j n)
 
+  size_kept : (j : ℕ) → (j ≡ i → ⊥) → size_of now j ≡ size_of was j
+  size_kept j n = ap (λ (k : Class). k.size) (class_kept j n)
+
 -- what `add` writes
 pub record CellWrites (was now : Classes) : Type 0 where
   pub count : now.count ≡ was.count + 1
@@ -40,17 +43,19 @@ pub record CellWrites (was now : Classes) : Type 0 where
   pub room : was.count < length was.parents
 
 -- a new cell
-pub cell_added : (shape set' : ℕ) (was now : Classes) → CellWrites was now → shape_of now was.count ≡ shape → set_of now was.count ≡ set' → Added shape set' was now
+pub cell_added : (shape set' : ℕ) (was now : Classes) → CellWrites was now → shape_of now was.count ≡ shape → set_of now was.count ≡ set' → size_of now was.count ≡ 1 → Added shape set' was now
 unfolding label_of next_in entry_of upper_of lower_in
-cell_added shape set' was now w shape_new set_new = record {
+cell_added shape set' was now w shape_new set_new size_new = record {
   count = w.count;
   links = w.links;
   labels = label_same (slice_index was.parents) (slice_index now.parents) was.count now.count (λ i.
       grind (arith, nat_tests, cases_eq i was.count, get_or-set_same was.parents was.count was.count 0, get_or-set_other was.parents was.count i was.count 0));
   shape_new = shape_new;
   set_new = set_new;
+  size_new = size_new;
   shapes = shape_kept was.count was now w.classes;
   sets = set_kept was.count was now w.classes;
+  sizes = size_kept was.count was now w.classes;
   entries = record {
     entries = λ k h. rw w.trail refl;
     uppers = λ k h. grind (arith, get_or-set_other was.parents was.count (lower_of was k) was.count 0, was.forest.trail_inside k);
@@ -133,15 +138,17 @@ module _ (x y : ℕ) (was now : Classes) (w : LinkWrites x y was now)
   lower_not_y : (k : ℕ) → k < now.links → lower_of now k ≡ y → ⊥
   lower_not_y k h e = grind (arith, cases_eq k was.links, lower_new, entry_kept k, lower_differs k y)
 
-  pub class_linked : (shape : ℕ) → shape_of now y ≡ shape → set_of now y ≡ bit_or (set_of was y) (set_of was x) → Linked x y shape was now
-  class_linked shape shape_new set_new = record {
+  pub class_linked : (shape : ℕ) → shape_of now y ≡ shape → set_of now y ≡ bit_or (set_of was y) (set_of was x) → size_of now y ≡ (size_of was y + size_of was x) % 2 ^ 16 → Linked x y shape was now
+  class_linked shape shape_new set_new size_new = record {
     count = w.count;
     links = w.links;
     labels = labels_linked;
     shape_new = shape_new;
     set_new = set_new;
+    size_new = size_new;
     shapes = shape_kept y was now w.classes;
     sets = set_kept y was now w.classes;
+    sizes = size_kept y was now w.classes;
     entries = entries_linked;
     lower_new = lower_new;
     upper_new = upper_new;
@@ -181,15 +188,16 @@ module _ (k : ℕ) (was now : Classes) (w : ShapeWrites k was now) (stands : k <
         entries = same_entries_trans s.entries (entries_reshaped mark);
       }
 
-  pub upper_reshaped : (shape : ℕ) → shape_of now (upper_of was k) ≡ shape → set_of now (upper_of was k) ≡ set_of was (upper_of was k) → Reshaped k shape was now
+  pub upper_reshaped : (shape : ℕ) → shape_of now (upper_of was k) ≡ shape → set_of now (upper_of was k) ≡ set_of was (upper_of was k) → size_of now (upper_of was k) ≡ size_of was (upper_of was k) → Reshaped k shape was now
   unfolding label_of
-  upper_reshaped shape shape_new set_same = record {
+  upper_reshaped shape shape_new set_same size_same = record {
     count = w.count;
     links = w.links;
     labels = λ i. rw (w.parents, w.count) refl;
     shape_new = shape_new;
     shapes = shape_kept (upper_of was k) was now w.classes;
     sets = λ i. grind (arith, cases_eq i (upper_of was k), set_same, set_kept (upper_of was k) was now w.classes i);
+    sizes = λ i. grind (arith, cases_eq i (upper_of was k), size_same, size_kept (upper_of was k) was now w.classes i);
     entries = entries_reshaped (links_of was);
     since = since_reshaped;
   }

@@ -113,6 +113,7 @@ since_all_undone was now s =
       labels = λ i. rw (parents, s.count) refl;
       shapes = λ i. rw classes refl;
       sets = λ i. rw classes refl;
+      sizes = λ i. rw classes refl;
       entries = subst (λ (n : ℕ). SameEntries n was now) (sym s.at_mark) s.entries;
     }
 

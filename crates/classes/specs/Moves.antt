@@ -1,8 +1,8 @@
 -- What one change of the classes leaves. Assumes nothing.
-use Rattle.std.specs.Prelude.{◌≡◌, ℕ, ◌+◌, ◌<◌, ◌≤◌, ◌≢◌, bit_or}
+use Rattle.std.specs.Prelude.{◌≡◌, ℕ, ◌+◌, ◌%◌, ◌^◌, ◌<◌, ◌≤◌, ◌≢◌, bit_or}
 use Rattle.theory.specs.Updates.{sent}
 use Rattle.classes.specs.declared.forest.Classes.{Classes}
-use Rattle.classes.specs.Views.{count_of, links_of, label_of, shape_of, set_of, lower_of, upper_of, old_shape_of, old_set_of}
+use Rattle.classes.specs.Views.{count_of, links_of, label_of, shape_of, set_of, size_of, lower_of, upper_of, old_shape_of, old_set_of}
 use Rattle.classes.specs.Rewinding.{SameEntries, Since, Same}
 
 -- one cell more, a class by itself
@@ -12,8 +12,10 @@ pub record Added (shape set : ℕ) (was now : Classes) : Type 0 where
   pub labels : (i : ℕ) → label_of now i ≡ label_of was i
   pub shape_new : shape_of now (count_of was) ≡ shape
   pub set_new : set_of now (count_of was) ≡ set
+  pub size_new : size_of now (count_of was) ≡ 1
   pub shapes : (i : ℕ) → (i ≢ count_of was) → shape_of now i ≡ shape_of was i
   pub sets : (i : ℕ) → (i ≢ count_of was) → set_of now i ≡ set_of was i
+  pub sizes : (i : ℕ) → (i ≢ count_of was) → size_of now i ≡ size_of was i
   pub entries : SameEntries (links_of was) was now
 
 -- The class x goes under the class y, which gets the shape.
@@ -23,8 +25,11 @@ pub record Linked (x y shape : ℕ) (was now : Classes) : Type 0 where
   pub labels : (i : ℕ) → label_of now i ≡ sent x y (label_of was i)
   pub shape_new : shape_of now y ≡ shape
   pub set_new : set_of now y ≡ bit_or (set_of was y) (set_of was x)
+  -- a size is kept in 16 bits
+  pub size_new : size_of now y ≡ (size_of was y + size_of was x) % 2 ^ 16
   pub shapes : (i : ℕ) → (i ≢ y) → shape_of now i ≡ shape_of was i
   pub sets : (i : ℕ) → (i ≢ y) → set_of now i ≡ set_of was i
+  pub sizes : (i : ℕ) → (i ≢ y) → size_of now i ≡ size_of was i
   pub entries : SameEntries (links_of was) was now
   pub lower_new : lower_of now (links_of was) ≡ x
   pub upper_new : upper_of now (links_of was) ≡ y
@@ -43,6 +48,7 @@ pub record Reshaped (k shape : ℕ) (was now : Classes) : Type 0 where
   pub shape_new : shape_of now (upper_of was k) ≡ shape
   pub shapes : (i : ℕ) → (i ≢ upper_of was k) → shape_of now i ≡ shape_of was i
   pub sets : (i : ℕ) → set_of now i ≡ set_of was i
+  pub sizes : (i : ℕ) → size_of now i ≡ size_of was i
   pub entries : SameEntries (links_of was) was now
   pub since : (first : Classes) (mark : ℕ) → mark ≤ k → Since mark first was → Since mark first now
 

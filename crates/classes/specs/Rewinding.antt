@@ -1,7 +1,7 @@
 -- What undoing the links made since a mark gives back. Assumes nothing.
 use Rattle.std.specs.Prelude.{◌≡◌, ℕ, zero, suc, ◌+◌, ◌<◌, List, slice_set}
 use Rattle.classes.specs.declared.forest.Classes.{Classes}
-use Rattle.classes.specs.Views.{count_of, links_of, label_of, shape_of, set_of, entry_of, lower_of, upper_of, old_class_of}
+use Rattle.classes.specs.Views.{count_of, links_of, label_of, shape_of, set_of, size_of, entry_of, lower_of, upper_of, old_class_of}
 
 -- a list with the old values put back, from the last of `links` entries since the mark down to the first
 unfoldable pub restored : {A : Type 0} (at : ℕ → ℕ) (old : ℕ → A) (mark links : ℕ) → List A → List A
@@ -27,13 +27,14 @@ pub record Undoes (mark : ℕ) (was now : Classes) : Type 0 where
 unfoldable pub Since : (mark : ℕ) (was now : Classes) → Type 0
 Since mark was now = Undoes mark was now
 
--- both hold the same cells, labels, shapes, sets and links
+-- both hold the same cells, labels, shapes, sets, sizes and links
 pub record Same (was now : Classes) : Type 0 where
   pub count : count_of now ≡ count_of was
   pub links : links_of now ≡ links_of was
   pub labels : (i : ℕ) → label_of now i ≡ label_of was i
   pub shapes : (i : ℕ) → shape_of now i ≡ shape_of was i
   pub sets : (i : ℕ) → set_of now i ≡ set_of was i
+  pub sizes : (i : ℕ) → size_of now i ≡ size_of was i
   pub entries : SameEntries (links_of was) was now
 
 -- The last link of `was` is undone: its lower class stands by itself, and its upper class has again what it had before.

@@ -10,4 +10,4 @@ invariant_of-self c = search (rules, forest_added, get_or-set_same, get_or-set_o
 
 pub returns : goal.returns
 unfolding class_of
-returns c = cell_added _ _ _ _ (search (rules, get_or-set_same)) (search (rules, get_or-set_same)) (search (rules, get_or-set_same))
+returns c = cell_added _ _ _ _ (search (rules, get_or-set_same)) (search (rules, get_or-set_same)) (search (rules, get_or-set_same)) (search (rules, get_or-set_same))

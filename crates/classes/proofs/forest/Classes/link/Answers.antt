@@ -25,4 +25,4 @@ unfolding class_of
 returns c =
     let l = links_below_count c.args.self.now c.args.x c.requires.cells.0 c.requires.classes.0 in
     class_linked c.args.x c.args.y c.args.self.now _ (search (rules, get_or-set_at)) c.requires.cells.0 c.requires.cells.1 c.requires.classes.0 c.requires.classes.1 c.requires.apart
-    _ (search (rules, get_or-set_at)) (search (rules, get_or-set_at))
+    _ (search (rules, get_or-set_at)) (search (rules, get_or-set_at)) (search (rules, get_or-set_at))

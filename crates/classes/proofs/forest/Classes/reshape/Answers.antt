@@ -13,4 +13,4 @@ unfolding class_of
 returns c =
     let u = upper_within c.args.self.now c.args.k c.requires in
     let e : c.from.result ≡ upper_of c.args.self.now c.args.k = cc in
-    upper_reshaped c.args.k c.args.self.now _ (search (rules, get_or-set_at)) c.requires _ (search (rules, get_or-set_at)) (search (rules, get_or-set_at))
+    upper_reshaped c.args.k c.args.self.now _ (search (rules, get_or-set_at)) c.requires _ (search (rules, get_or-set_at)) (search (rules, get_or-set_at)) (search (rules, get_or-set_at))
