@@ -15,13 +15,19 @@ unfolding cells_of
 length_taken t = length-map (take t.count t.entries) (cell_in t.places)
 
 -- and that is the count
-pub count_is_length : (t : Cells) → length t.entries ≡ 2048 → length (cells_of t) ≡ t.count
-count_is_length t full = omega (arith, t.few, length_taken t, length-take t.count t.entries)
+pub count_is_length : (t : Cells) → length (cells_of t) ≡ t.count
+count_is_length t = omega (arith, t.whole, t.few, length_taken t, length-take t.count t.entries)
+
+pub at_most_2048_cells : (t : Cells) → length (cells_of t) ≤ 2048
+at_most_2048_cells t = omega (arith, t.few, count_is_length t)
 
 -- what is filled is the places of all cells together
 pub filled_is_places : (t : Cells) → places_in (cells_of t) ≡ t.filled
 unfolding cells_of
 filled_is_places t = t.brim
+
+pub at_most_4096_places : (t : Cells) → places_in (cells_of t) ≤ 4096
+at_most_4096_places t = omega (arith, t.room, filled_is_places t)
 
 -- each cell is sound where it stands
 pub cells_are_sound : (t : Cells) → AllSound (cells_of t)

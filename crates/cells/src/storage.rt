@@ -1,4 +1,4 @@
-ghost use Rattle.std.specs.Prelude.{◌≡◌, ◌≤◌, All, take};
+ghost use Rattle.std.specs.Prelude.{◌≡◌, ◌≤◌, All, length, take};
 ghost use Rattle.cells.specs.CellLists.{places_in, AllSound};
 ghost use Rattle.cells.specs.Layout.{cells_in, end_of};
 
@@ -27,6 +27,7 @@ pub struct Cells {
     places: [u32; 4096],
     count: usize,
     filled: usize,
+    ghost whole: { length entries ≡ 2048 },
     ghost few: { count ≤ 2048 },
     ghost room: { filled ≤ 4096 },
     ghost within: { All (λ e. end_of e ≤ filled) (take count entries) },

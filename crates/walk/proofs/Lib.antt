@@ -3,3 +3,4 @@ pub mod Colors
 pub mod Moves
 pub mod Orders
 pub mod Ends
+pub mod Rows

@@ -27,7 +27,7 @@ once_rest x xs once k l u e f = let q = once (suc k) (suc l) u e f in omega arit
 pub once_first : (x : ℕ) (xs : List ℕ) → Once (x ∷ xs) → In x xs → ⊥
 once_first x xs once p = let q = once 0 (suc p.0) x refl p.1 in omega arith
 
-once_both : (xs ys : List ℕ) → Once xs → Once ys → ((x : ℕ) → In x xs → In x ys → ⊥) → Once (xs ++ ys)
+pub once_both : (xs ys : List ℕ) → Once xs → Once ys → ((x : ℕ) → In x xs → In x ys → ⊥) → Once (xs ++ ys)
 once_both [] ys a b apart = b
 once_both (x ∷ xs) ys a b apart =
     let rest = once_both xs ys (once_rest x xs a) b (λ u p q. apart u (in_rest u x xs p) q) in

@@ -20,7 +20,7 @@ length-nodes : (frames : List Frame) → length (nodes (stack_from frames)) ≡ 
 length-nodes [] = refl
 length-nodes (f ∷ below) = ap suc (length-nodes below)
 
-no_edge_left : (xs : List ℕ) (k : ℕ) → slice_get xs k ≡ None → length xs ≤ k
+pub no_edge_left : (xs : List ℕ) (k : ℕ) → slice_get xs k ≡ None → length xs ≤ k
 no_edge_left xs k e = grind (arith, common_steps, gets)
 
 module _ {edges : ℕ → List ℕ} {n : ℕ} where

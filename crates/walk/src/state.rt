@@ -121,7 +121,12 @@ impl Walk {
         requires { 0 < length self.now.frames }
         ensures { self.now.frames ≡ result ∷ drop 1 self.now.frames }
     {
-        self.stack[self.depth - 1]
+        // Field by field, as frames are written: a read of both at once would wait for the writes.
+        let top = self.depth - 1;
+        Frame {
+            node: self.stack[top].node,
+            edge: self.stack[top].edge,
+        }
     }
 }
 

@@ -9,7 +9,7 @@ use Rattle.std.specs.Str.Parse.{AllDigits, digits_value}
 use Rattle.words.specs.Spelling.{Writes, Numeral, Spells, decimal, hexadecimal, Finds}
 use Rattle.words.proofs.Numerals.{digits_of_writes, writes_value}
 
-one_number : {base m n : ℕ} {bs : List ℕ} → Writes base bs m → Writes base bs n → m ≡ n
+pub one_number : {base m n : ℕ} {bs : List ℕ} → Writes base bs m → Writes base bs n → m ≡ n
 one_number v w = omega (arith, digits_of_writes v, digits_of_writes w)
 
 no_decimal_0x : {bs : List ℕ} {n : ℕ} → Numeral 10 (48 ∷ 120 ∷ bs) n → ⊥

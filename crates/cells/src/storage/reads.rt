@@ -28,14 +28,14 @@ impl Cells {
     }
 
     // What is kept of the cell.
-    fn entry(&self, cell: u32) -> Entry
+    fn entry(&self, cell: u32) -> &Entry
         requires { cell < length (cells_of self.now) }
-        ensures cell { slice_get (cells_of self.now) cell ≡ Some (cell_in self.now.places result) }
-        ensures plain { plain_of self.now cell ≡ plain_in result }
-        ensures sound { IsSound cell (cell_in self.now.places result) }
-        ensures ends { end_of result ≤ self.now.filled }
+        ensures cell { slice_get (cells_of self.now) cell ≡ Some (cell_in self.now.places result.now) }
+        ensures plain { plain_of self.now cell ≡ plain_in result.now }
+        ensures sound { IsSound cell (cell_in self.now.places result.now) }
+        ensures ends { end_of result.now ≤ self.now.filled }
     {
-        self.entries[cell as usize]
+        &self.entries[cell as usize]
     }
 
     /// What the cell is.
@@ -43,7 +43,7 @@ impl Cells {
         requires { cell < length (cells_of self.now) }
         ensures { KindAt (cells_of self.now) (plain_of self.now cell) cell result }
     {
-        match self.entry(cell) {
+        match *self.entry(cell) {
             Entry::Unknown { set } => Kind::Unknown(set),
             Entry::Term { plain, .. } => Kind::Term { plain },
         }
@@ -55,7 +55,7 @@ impl Cells {
         ensures value { result ≡ code_at (cells_of self.now) cell }
         ensures small { result < 16777216 }
     {
-        match self.entry(cell) {
+        match *self.entry(cell) {
             Entry::Term { code, .. } => code,
             Entry::Unknown { .. } => unreachable!(),
         }
@@ -68,7 +68,7 @@ impl Cells {
         ensures few { length result.now ≤ 9 }
         ensures lower { (k : ℕ) → k < length result.now → slice_index result.now k < cell }
     {
-        match self.entry(cell) {
+        match *self.entry(cell) {
             Entry::Unknown { .. } => &[],
             Entry::Term { start, count, .. } => {
                 let start = usize::from(start);

@@ -32,7 +32,12 @@ impl Classes {
         ensures { Linked x y shape self.old self.new }
     {
         let (lower, upper) = (usize::from(x), usize::from(y));
-        let was = self.classes[upper];
+        // Field by field, as a class is written: a read of all at once would wait for the writes.
+        let was = Class {
+            size: self.classes[upper].size,
+            shape: self.classes[upper].shape,
+            set: self.classes[upper].set,
+        };
         self.trail[self.links] = Entry { lower: x, was };
         self.parents[lower] = y;
         self.classes[upper] = Class {

@@ -8,8 +8,9 @@ use Rattle.cells.proofs.storage.Cells.add_unknown.Goals as goal
 pub invariant_of-self : goal.invariant_of-self
 invariant_of-self c =
     let t = c.args.self.now in
-    let counted = count_is_length t (search rules) in
+    let counted = count_is_length t in
     record {
+      whole = search rules;
       few = search rules;
       room = search rules;
       within = within_more t _ _ (search rules) (search rules) (search rules);
@@ -20,5 +21,5 @@ invariant_of-self c =
 pub returns-clause-cells : goal.returns-clause-cells
 unfolding cells_of
 returns-clause-cells c =
-    let counted = count_is_length c.args.self.now (search rules) in
+    let counted = count_is_length c.args.self.now in
     cells_more c.args.self.now _ _ _ (search rules) refl (search rules)

@@ -10,7 +10,7 @@ use Rattle.cells.proofs.storage.Cells.first_missing.Goals as goal
 pub returns : goal.returns
 returns c =
     let cells = cells_of c.args.self.now in
-    let counted = count_is_length c.args.self.now (search rules) in
+    let counted = count_is_length c.args.self.now in
     first_missing_from_find cells c.args.cells.now c.find.result
     (first_from_find _ _ _ (λ x. length cells ≤ x) (λ x. x < length cells) c.find.ensures.ran (YieldsList-from_copied (YieldsList-from_slice c.args.cells.now cc))
     (λ x q k. search (rules, tests)) (λ x q k. search (rules, tests)))
